@@ -3,4 +3,5 @@ pub mod LastHeaders
 pub mod NoFile
 pub mod Repairs
 pub mod SessionOption
+pub mod Streamed
 pub mod WholeLines

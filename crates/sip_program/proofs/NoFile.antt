@@ -43,19 +43,19 @@ never_ends_in_1 kind repairs (Some input) status tells = λ short file is.
       | inr none ↦ no_file kind (replayed kind repairs input) none file
     ]
 
-zero : (status : ℕ) → status ≡ 0 → status ≡ 1 → ⊥
+pub zero : (status : ℕ) → status ≡ 0 → status ≡ 1 → ⊥
 zero status is one = omega arith
 
 three : (status : ℕ) → status ≡ 3 → status ≡ 1 → ⊥
 three status is one = omega arith
 
-four : (status : ℕ) → status ≡ 4 → status ≡ 1 → ⊥
+pub four : (status : ℕ) → status ≡ 4 → status ≡ 1 → ⊥
 four status is one = omega arith
 
-five : (status : ℕ) → status ≡ 5 → status ≡ 1 → ⊥
+pub five : (status : ℕ) → status ≡ 5 → status ≡ 1 → ⊥
 five status is one = omega arith
 
-a_round : (fault : RoundFault) (status : ℕ) → status ≡ round_status fault → status ≡ 1 → ⊥
+pub a_round : (fault : RoundFault) (status : ℕ) → status ≡ round_status fault → status ≡ 1 → ⊥
 a_round round_fault.Broken status is one = three status is one
 a_round round_fault.MomentBackwards status is one = three status is one
 a_round round_fault.MomentTooLarge status is one = three status is one

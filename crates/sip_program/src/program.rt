@@ -1,6 +1,6 @@
 //! The program: what each command does.
 
-ghost use Rattle.std.specs.Prelude.{◌≡◌, ◌≢◌, ◌⊎◌, ◌<◌, ◌≤◌, ◌^◌, Err, IfErr, IfSome, IsFalse, IsTrue, MatchResult, OnErr, OnOk, length, map};
+ghost use Rattle.std.specs.Prelude.{◌≡◌, ◌≢◌, ◌⊎◌, ◌<◌, ◌≤◌, ◌^◌, Err, IfErr, IfSome, IsFalse, IsTrue, List, MatchResult, OnErr, OnOk, length, map};
 ghost use Rattle.sip_files.specs.EventFile.{IsFile};
 ghost use Rattle.sip_files.specs.Replay.{TellsReplay, WritesAll, WritesFront};
 ghost use Rattle.sip_program.specs.Inputs.{HasRefusedRound, IsNoFile};
@@ -9,7 +9,9 @@ ghost use Rattle.sip_ladder.specs.Drawing.{DrawsAll};
 ghost use Rattle.sip_program.specs.Repair.{TellsRepair, replayed};
 ghost use Rattle.sip_program.specs.StreamStatus.{TellsStatus};
 ghost use Rattle.sip_program.specs.Words.{asks_help, asks_ladder, asks_repair, asks_replay, asks_stream, kind_asked};
-ghost use Rattle.sip_stream.specs.Streams.{StreamsAll, StreamsFront, TellsStream};
+ghost use Rattle.sip_round.specs.declared.config.Config.{Config};
+ghost use Rattle.sip_round.specs.declared.round.Round.{Round};
+ghost use Rattle.sip_stream.specs.Streams.{ComesOnly, IsStream, StreamsAll, StreamsFront, TellsStream};
 ghost use Rattle.sip_files.specs.declared.file_replay.ReplayFault.TheVariants as replay_fault;
 
 use crate::failure::Failure;
@@ -96,6 +98,10 @@ pub fn ua<
     ensures stream_fault { IsTrue (asks_stream (map S.text words.now))
         → (result ≡ 1) ⊎ (result ≡ 3) → IfSome (R.remaining input.old)
         (TellsStatus (kind_asked (map S.text words.now)) result) }
+    ensures stream_only { IsTrue (asks_stream (map S.text words.now))
+        → IfSome (R.remaining input.old)
+        (λ input. (config : Config) (rounds : List Round)
+        → IsStream (kind_asked (map S.text words.now)) config rounds input → result ≢ 1) }
     ensures draws { IsFalse (asks_replay (map S.text words.now))
         → IsTrue (asks_ladder (map S.text words.now)) → result ≡ 0
         → IfSome (R.remaining input.old)
@@ -111,7 +117,8 @@ pub fn ua<
         → IsTrue (asks_ladder (map S.text words.now)) → result ≡ 3
         → IfSome (R.remaining input.old) (HasRefusedRound (kind_asked (map S.text words.now))) }
     ensures unread { IsFalse (asks_replay (map S.text words.now))
-        → IsFalse (asks_stream (map S.text words.now)) → IsFalse (asks_ladder (map S.text words.now)) → input.new ≡ input.old }
+        → IsFalse (asks_stream (map S.text words.now))
+        → IsFalse (asks_ladder (map S.text words.now)) → input.new ≡ input.old }
     ensures helps { IsTrue (asks_help (map S.text words.now)) → result ≢ 0 → result ≢ 4
         → output.new ≡ output.old }
     ensures bad_words { result ≡ 2 → output.new ≡ output.old }
@@ -266,6 +273,8 @@ fn stream_by<T: Threads + Sync, R: Read, W: Write>(
         (StreamsFront kind (W.contents output.old) (W.contents output.new))) }
     ensures fault { IfErr result
         (λ fault. IfSome (R.remaining input.old) (TellsStream kind fault)) }
+    ensures only { IfErr result
+        (λ fault. IfSome (R.remaining input.old) (ComesOnly kind fault)) }
 {
     let ReplayWords {
         shards,

@@ -1,12 +1,13 @@
 -- The first lines of what was read, and of all that is left.
-use Rattle.std.proofs.Common.{◌≡◌, ℕ, suc, ◌<◌, ◌≤◌, Bool, true, false, List, [], ◌∷◌, ◌++◌, length, take, refl, sym, ap, ◌∙◌, arith, codes}
+use Rattle.std.proofs.Common.{◌≡◌, ℕ, zero, suc, ◌+◌, ◌<◌, ◌≤◌, Bool, true, false, List, [], ◌∷◌, ◌++◌, length, take, refl, sym, ap, ◌∙◌, arith, codes, inl, inr}
 use Rattle.std.specs.Prelude.{◌&&◌, ◌==◌, if◌then◌else◌, nat_eq}
 use Rattle.std.specs.List.{starts_with}
 use Rattle.sip_journal.specs.Rounds.{begins_round, first_round}
+use Rattle.sip_stream.specs.Streams.{IsRounds}
 
 -- ---- it is a front of the text
 
-abbrev after_first : Bool → List ℕ → List ℕ
+abbrev pub after_first : Bool → List ℕ → List ℕ
 after_first ends bytes = if ends then [] else first_round bytes
 
 pub no_longer : (text : List ℕ) → length (first_round text) ≤ length text
@@ -74,33 +75,79 @@ room (b ∷ bytes) ends =
         let fewer : length (first_round bytes) < length bytes = omega (arith, ends) in
         omega (arith, further fewer)
 
-after_next : List ℕ → Bool → List ℕ
-after_next bytes stop = if stop then [] else first_round bytes
+-- whether the first round ends here
+same_begin : (b : ℕ) (bytes after : List ℕ) → length (codes "round ") ≤ length bytes
+    → ((b == 10) && begins_round (bytes ++ after)) ≡ ((b == 10) && begins_round bytes)
+same_begin b bytes after fits =
+    ap (λ (begins : Bool). (b == 10) && begins)
+    (begins_longer bytes (codes "round ") after fits)
 
 pub same_first : (text after : List ℕ) → length (first_round text) < length text
     → first_round (text ++ after) ≡ first_round text
-unfolding first_round after_next
+unfolding first_round
 same_first [] after ends = absurd (omega (arith, ends))
 same_first (b ∷ bytes) after ends =
     by_end ((b == 10) && begins_round bytes) refl (λ fewer. same_first bytes after fewer) ends
   where
-    same_begin : length (codes "round ") ≤ length bytes
-        → ((b == 10) && begins_round (bytes ++ after)) ≡ ((b == 10) && begins_round bytes)
-    same_begin fits =
-        ap (λ (begins : Bool). (b == 10) && begins)
-        (begins_longer bytes (codes "round ") after fits)
-
     by_end : (stops : Bool) → stops ≡ ((b == 10) && begins_round bytes)
         → (length (first_round bytes) < length bytes
         → first_round (bytes ++ after) ≡ first_round bytes)
         → suc (length (after_first stops bytes)) < suc (length bytes)
-        → first_round (b ∷ (bytes ++ after)) ≡ b ∷ after_next bytes stops
+        → first_round (b ∷ (bytes ++ after)) ≡ b ∷ after_first stops bytes
     by_end true is further ends =
         let fits = has_prefix bytes (codes "round ")
         (and_second (b == 10) (begins_round bytes) (sym is)) in
-        ap (λ (stop : Bool). b ∷ after_next (bytes ++ after) stop) (same_begin fits ∙ sym is)
+        ap (λ (stop : Bool). b ∷ after_first stop (bytes ++ after))
+        (same_begin b bytes after fits ∙ sym is)
     by_end false is further ends =
         let fewer : length (first_round bytes) < length bytes = omega (arith, ends) in
         let fits : length (codes "round ") ≤ length bytes = omega (arith, room bytes fewer) in
-        ap (λ (stop : Bool). b ∷ after_next (bytes ++ after) stop) (same_begin fits ∙ sym is)
+        ap (λ (stop : Bool). b ∷ after_first stop (bytes ++ after))
+        (same_begin b bytes after fits ∙ sym is)
         ∙ ap (λ (rest : List ℕ). b ∷ rest) (further fewer)
+
+-- if it doesn't end before the end of the text, only the last bytes may be those of the next one
+pub front_of : (count : ℕ) (text after : List ℕ) → count + 6 ≤ length text
+    → first_round text ≡ text
+    → (more : List ℕ) × (first_round (text ++ after) ≡ take count text ++ more)
+unfolding first_round
+front_of zero text after fits all = (first_round (text ++ after), refl)
+front_of (suc count) [] after fits all = absurd (omega (arith, fits))
+front_of (suc count) (b ∷ bytes) after fits all =
+    by_end ((b == 10) && begins_round bytes) refl
+    (λ more_fits rest. front_of count bytes after more_fits rest) all
+  where
+    by_end : (stops : Bool) → stops ≡ ((b == 10) && begins_round bytes)
+        → (count + 6 ≤ length bytes → first_round bytes ≡ bytes
+        → (more : List ℕ) × (first_round (bytes ++ after) ≡ take count bytes ++ more))
+        → b ∷ after_first stops bytes ≡ b ∷ bytes
+        → (more : List ℕ) × (first_round (b ∷ (bytes ++ after)) ≡ b ∷ (take count bytes ++ more))
+    by_end true is further all =
+        let none : [] ≡ bytes = cc in
+        absurd (omega (arith, fits, ap length none))
+    by_end false is further all =
+        let room : count + 6 ≤ length bytes = omega (arith, fits) in
+        let on = further room cc in (
+          on.0,
+          ap (λ (stop : Bool). b ∷ after_first stop (bytes ++ after))
+              (same_begin b bytes after (omega (arith, room)) ∙ sym is)
+              ∙ ap (λ (rest : List ℕ). b ∷ rest) on.1,
+        )
+
+-- behind it stands nothing, or the next one
+pub rounds_follow : (lines left : List ℕ) → first_round (lines ++ left) ≡ lines → IsRounds left
+unfolding first_round
+rounds_follow [] [] is = inl refl
+rounds_follow [] (b ∷ left) is = absurd cc
+rounds_follow (b ∷ bytes) left is =
+    by_end ((b == 10) && begins_round (bytes ++ left)) refl
+    (λ rest. rounds_follow bytes left rest) is
+  where
+    by_end : (stops : Bool) → stops ≡ ((b == 10) && begins_round (bytes ++ left))
+        → (first_round (bytes ++ left) ≡ bytes → IsRounds left)
+        → b ∷ after_first stops (bytes ++ left) ≡ b ∷ bytes → IsRounds left
+    by_end true ends further is =
+        let none : bytes ≡ [] = cc in
+        inr (ap (λ (t : List ℕ). begins_round (t ++ left)) (sym none)
+        ∙ and_second (b == 10) (begins_round (bytes ++ left)) (sym ends))
+    by_end false ends further is = further cc

@@ -15,7 +15,8 @@ use Rattle.sip_journal.specs.Rounds.{some_config}
 pub others : List ℕ
 others = text_of (head_lines (whole_head some_config))
 
-in_parts : (version : Version) → head_in version some_config ≡ version_line version ++ 10 ∷ others
+pub in_parts : (version : Version)
+    → head_in version some_config ≡ version_line version ++ 10 ∷ others
 unfolding others
 in_parts version =
     head_is version some_config

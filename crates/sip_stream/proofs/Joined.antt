@@ -36,7 +36,7 @@ zip_append P (x ∷ xs) others (y ∷ ys) more some rest =
 -- ---- no header lines stand before the lines of a head, or before a round's
 
 -- a line that isn't an event's
-abbrev is_plain : EventLine → Type 0
+abbrev pub is_plain : EventLine → Type 0
 is_plain (line.Local address) = Unit {0}
 is_plain (line.Seed seed) = Unit {0}
 is_plain (line.First number) = Unit {0}
@@ -62,7 +62,7 @@ headed_plain header headers (line.Event (Command c)) x e plain =
 headed_plain header headers (line.Header a) x e plain = absurd cc
 
 -- what is said with such a line is the line alone
-plain_line : (h : HeadedLine) (x : EventLine) → SaysHeaded h x → is_plain x
+pub plain_line : (h : HeadedLine) (x : EventLine) → SaysHeaded h x → is_plain x
     → headed_lines h ≡ x ∷ []
 plain_line h x says plain = by_headers h.headers h.item x says plain
   where
@@ -204,7 +204,8 @@ says_rounds kind version config rounds text spells =
 
 -- ---- behind other rounds
 
-joined_in : (version : Version) (config : Config) (rounds more : List Round) (file text : List ℕ)
+pub joined_in : (version : Version) (config : Config) (rounds more : List Round)
+    (file text : List ℕ)
     → SpellsIn version config rounds file → SaysRounds version more text
     → SpellsIn version config (rounds ++ more) (file ++ text)
 joined_in version config rounds more file text s m = record {

@@ -1,7 +1,10 @@
+pub mod Apart
+pub mod BadLines
 pub mod Chunks
 pub mod Going
 pub mod Heads
 pub mod Joined
 pub mod OneRound
+pub mod Only
 pub mod Reading
 pub mod Written

@@ -108,40 +108,41 @@ module _ {C : Type 0} (shard_of : C → List ℕ → ℕ → ℕ) where
   -- ---- why
 
   pub tells_refused : (T X : Type 0) (agent : AgentState C) (round : Round) (index : ℕ)
-      (result : Result T RoundFault) (fault : RoundFault) → result ≡ Err fault
-      → IfSome (refusal_of agent round) (λ f. (result ≡ Err f) × X)
+      (known : Option (List ℕ)) (result : Result T RoundFault) (fault : RoundFault)
+      → result ≡ Err fault → IfSome (refusal_of agent round) (λ f. (result ≡ Err f) × X)
       → (refusal_of agent round ≡ None → OnErr result ((result ≡ Err (round_fault.NoMemory false))
       ⊎ (result ≡ Err (round_fault.NoMemory true))))
       → (config : Config) (rounds : List Round) → Stands shard_of agent config rounds
       → index ≡ length rounds
-      → TellsStep config rounds round (refused_as index fault)
-  tells_refused T X agent round index result fault is refuses memory config rounds s at =
+      → TellsStep known known config rounds round (refused_as index fault)
+  tells_refused T X agent round index known result fault is refuses memory config rounds s at =
       by_refusal (refusal_of agent round) refl refuses memory
     where
       same_err : (f g : RoundFault) → ◌≡◌ {A = Result T RoundFault} (Err f) (Err g) → f ≡ g
       same_err f g e = cc
 
       from_memory : (broken : Bool) → fault ≡ round_fault.NoMemory broken
-          → TellsStep config rounds round (refused_as index fault)
+          → TellsStep known known config rounds round (refused_as index fault)
       from_memory broken e =
-          subst (λ f. TellsStep config rounds round (refused_as index f)) (sym e) tt
+          subst (λ f. TellsStep known known config rounds round (refused_as index f)) (sym e) tt
 
       told : (f : RoundFault) → refused config (rounds ++ round ∷ []) ≡ Some (length rounds, f)
-          → TellsStep config rounds round (refused_as index f)
-      told round_fault.Broken e = e ∙ ap (λ i. Some (i, round_fault.Broken)) (sym at)
+          → TellsStep known known config rounds round (refused_as index f)
+      told round_fault.Broken e =
+          (at, e ∙ ap (λ i. Some (i, round_fault.Broken)) (sym at), Appends-nil known)
       told round_fault.MomentBackwards e =
-          e ∙ ap (λ i. Some (i, round_fault.MomentBackwards)) (sym at)
+          (at, e ∙ ap (λ i. Some (i, round_fault.MomentBackwards)) (sym at), Appends-nil known)
       told round_fault.MomentTooLarge e =
-          e ∙ ap (λ i. Some (i, round_fault.MomentTooLarge)) (sym at)
+          (at, e ∙ ap (λ i. Some (i, round_fault.MomentTooLarge)) (sym at), Appends-nil known)
       told round_fault.TooManyEvents e =
-          e ∙ ap (λ i. Some (i, round_fault.TooManyEvents)) (sym at)
+          (at, e ∙ ap (λ i. Some (i, round_fault.TooManyEvents)) (sym at), Appends-nil known)
       told round_fault.RoundsUsedUp e =
-          e ∙ ap (λ i. Some (i, round_fault.RoundsUsedUp)) (sym at)
+          (at, e ∙ ap (λ i. Some (i, round_fault.RoundsUsedUp)) (sym at), Appends-nil known)
       told (round_fault.NoMemory broken) e = tt
 
       by_either : ((result ≡ Err (round_fault.NoMemory false))
           ⊎ (result ≡ Err (round_fault.NoMemory true)))
-          → TellsStep config rounds round (refused_as index fault)
+          → TellsStep known known config rounds round (refused_as index fault)
       by_either (inl e) = from_memory false (same_err fault _ (sym is ∙ e))
       by_either (inr e) = from_memory true (same_err fault _ (sym is ∙ e))
 
@@ -149,12 +150,12 @@ module _ {C : Type 0} (shard_of : C → List ℕ → ℕ → ℕ) where
           → IfSome refusal (λ f. (result ≡ Err f) × X)
           → (refusal ≡ None → OnErr result ((result ≡ Err (round_fault.NoMemory false))
           ⊎ (result ≡ Err (round_fault.NoMemory true))))
-          → TellsStep config rounds round (refused_as index fault)
+          → TellsStep known known config rounds round (refused_as index fault)
       by_refusal None found refuses memory =
           by_either (subst (λ r. OnErr r ((result ≡ Err (round_fault.NoMemory false))
           ⊎ (result ≡ Err (round_fault.NoMemory true)))) is (memory refl))
       by_refusal (Some f) found refuses memory =
-          subst (λ g. TellsStep config rounds round (refused_as index g))
+          subst (λ g. TellsStep known known config rounds round (refused_as index g))
           (same_err f fault (sym refuses.0 ∙ is))
           (told f (refused_push agent config rounds round s
           ∙ ap (λ r. refused_or r (length rounds) None) (sym found)))

@@ -1,13 +1,23 @@
 -- What was read and what is left to read, where that is known.
-use Rattle.std.proofs.Common.{◌≡◌, ℕ, zero, suc, ◌<◌, ◌≤◌, ◌^◌, Bool, false, List, [], ◌∷◌, ◌++◌, length, take, drop, refl, sym, ap, subst, ◌∙◌, append_assoc, append-nil, take-append-drop, arith, inl, inr}
-use Rattle.std.specs.Prelude.{IfSome, Option, None, Some, ◌⊎◌}
+use Rattle.std.proofs.Common.{◌≡◌, ℕ, ◌+◌, ◌<◌, ◌≤◌, ◌^◌, Bool, false, List, [], ◌∷◌, ◌++◌, length, take, drop, refl, sym, ap, subst, ◌∙◌, append_assoc, append-nil, take-append-drop, length-take-le, zero-add, arith, inl, inr}
+use Rattle.std.specs.Prelude.{IfSome, Option, None, Some, Result, ◌⊎◌}
 use Rattle.std.specs.Io.KnownBytes.{Consumes, IsAtEnd, Keeps, prepend_known}
 use Rattle.std.proofs.lemmas.List.{drop_all, take_all}
+use Rattle.sip_files.specs.Counted.{Counts, failures_of}
+use Rattle.sip_files.proofs.Streams.{counts_both}
 use Rattle.sip_journal.specs.Rounds.{first_round}
 use Rattle.sip_stream.specs.Streams.{IsNext}
-use Rattle.sip_stream.proofs.Chunks.{is_front, no_longer, same_first}
+use Rattle.sip_stream.proofs.Chunks.{front_of, is_front, no_longer, same_first}
 
 -- ---- one more read
+
+pub counts_read : {T E : Type 0} (before now after : Option ℕ) (result end : Result T E)
+    → result ≡ end → Counts before now 0 → Counts now after (failures_of result)
+    → Counts before after (failures_of end)
+counts_read before now after result end is so_far one =
+    subst (Counts before after) (zero-add (failures_of end))
+    (counts_both before now after 0 (failures_of end) so_far
+    (subst (λ r. Counts now after (failures_of r)) is one))
 
 pub read_on : (all left after : Option (List ℕ)) (text more longer : List ℕ)
     → Keeps all (prepend_known text left) → Consumes left after more → longer ≡ text ++ more
@@ -33,15 +43,6 @@ given (Some xs) (Some ys) text first rest len kept is others =
 
 -- ---- the lines that are given
 
-less_or_not : (n m : ℕ) → (n < m) ⊎ (m ≤ n)
-less_or_not n zero = inr (omega arith)
-less_or_not zero (suc m) = inl (omega arith)
-less_or_not (suc n) (suc m) = one_more (less_or_not n m)
-  where
-    one_more : ((n < m) ⊎ (m ≤ n)) → (suc n < suc m) ⊎ (suc m ≤ suc n)
-    one_more (inl less) = inl (omega (arith, less))
-    one_more (inr not) = inr (omega (arith, not))
-
 -- the first lines are in the text
 pub fits : (text slice first : List ℕ) → slice ≡ text → first ≡ first_round slice
     → length first ≤ length text
@@ -49,10 +50,9 @@ fits text slice first same is =
     subst (λ (t : List ℕ). length t ≤ length text) (sym (is ∙ ap first_round same))
     (no_longer text)
 
--- the first round ends in the text, or nothing follows the text, or it is too long
+-- the first round ends in the text, or nothing follows the text
 abbrev pub MayBeGiven : ℕ → List ℕ → Bool → Type 0
-MayBeGiven len text has_more =
-    (len < length text) ⊎ ((has_more ≡ false) ⊎ (2 ^ 26 < length text))
+MayBeGiven len text has_more = (len < length text) ⊎ (has_more ≡ false)
 
 module _ (text first rest : List ℕ) (len : ℕ) (is_len : len ≡ length (first_round text))
     (is_first : first ≡ take len text) (is_rest : rest ≡ drop len text) where
@@ -66,30 +66,23 @@ module _ (text first rest : List ℕ) (len : ℕ) (is_len : len ≡ length (firs
   whole_with : (left : List ℕ) → first ++ (rest ++ left) ≡ text ++ left
   whole_with left = sym (append_assoc first rest left) ∙ ap (λ (t : List ℕ). t ++ left) whole
 
-  is_next_by : (left : List ℕ) (has_more : Bool) → MayBeGiven len text has_more
-      → (has_more ≡ false → left ≡ []) → IsNext first (rest ++ left)
-  is_next_by left has_more (inl ends) over =
+  is_first_by : (left : List ℕ) (has_more : Bool) → MayBeGiven len text has_more
+      → (has_more ≡ false → left ≡ []) → first_round (first ++ (rest ++ left)) ≡ first
+  is_first_by left has_more (inl ends) over =
       let shorter : length (first_round text) < length text = omega (arith, ends, is_len) in
-      inl (same_lines ∙ sym (same_first text left shorter) ∙ ap first_round (sym (whole_with left)))
-  is_next_by left has_more (inr (inl none)) over =
-      inl (same_lines ∙ ap first_round (sym (append-nil text)
-      ∙ ap (λ (t : List ℕ). text ++ t) (sym (over none)) ∙ sym (whole_with left)))
-  is_next_by left has_more (inr (inr long)) over =
-      by_length (less_or_not len (length text))
-    where
-      by_length : ((len < length text) ⊎ (length text ≤ len)) → IsNext first (rest ++ left)
-      by_length (inl ends) =
-          let shorter : length (first_round text) < length text = omega (arith, ends, is_len) in
-          inl (same_lines ∙ sym (same_first text left shorter)
-          ∙ ap first_round (sym (whole_with left)))
-      by_length (inr all) =
-          let same : first ≡ text = is_first ∙ take_all len text all in
-          inr (subst (λ (t : List ℕ). 2 ^ 26 < length t) (sym same) long)
+      ap first_round (whole_with left) ∙ same_first text left shorter ∙ sym same_lines
+  is_first_by left has_more (inr none) over =
+      ap first_round (whole_with left ∙ ap (λ (t : List ℕ). text ++ t) (over none)
+      ∙ append-nil text) ∙ sym same_lines
 
   pub is_next : (left : Option (List ℕ)) (has_more : Bool) → MayBeGiven len text has_more
       → (has_more ≡ false → IsAtEnd left) → IfSome (prepend_known rest left) (IsNext first)
   is_next None has_more may over = tt
-  is_next (Some left) has_more may over = is_next_by left has_more may over
+  is_next (Some left) has_more may over = record {
+    more = [];
+    front = is_first_by left has_more may over ∙ sym (append-nil first);
+    whole = inl refl;
+  }
 
   -- no lines at the end alone
   nothing_there : (t : List ℕ) → first_round t ≡ [] → t ≡ []
@@ -115,5 +108,32 @@ module _ (text first rest : List ℕ) (len : ℕ) (is_len : len ≡ length (firs
 
       by_cause : MayBeGiven len text has_more → text ≡ [] → IsAtEnd left
       by_cause (inl ends) empty = absurd (omega (arith, ends, short text empty))
-      by_cause (inr (inl none)) empty = over none
-      by_cause (inr (inr long)) empty = absurd (omega (arith, long, short text empty))
+      by_cause (inr none) empty = over none
+
+-- ---- a front of lines that are too long
+
+module _ (text first rest : List ℕ) (len count : ℕ) (is_len : len ≡ length (first_round text))
+    (all : length text ≤ len) (fits : count + 6 ≤ length text) (is_first : first ≡ take count text)
+    (is_rest : rest ≡ drop count text) where
+  counted : length first ≡ count
+  counted = ap length is_first ∙ length-take-le count text (omega (arith, fits))
+
+  pub is_long : 2 ^ 26 < count → (left : Option (List ℕ))
+      → IfSome (prepend_known rest left) (IsNext first)
+  is_long long None = tt
+  is_long long (Some left) =
+      let on = front_of count text left fits
+      (sym (is_front text) ∙ take_all (length (first_round text)) text
+      (omega (arith, all, is_len))) in
+      record {
+        more = on.0;
+        front =
+            ap first_round (sym (append_assoc first rest left)
+            ∙ ap (λ (t : List ℕ). t ++ left) (ap (λ (t : List ℕ). t ++ rest) is_first
+            ∙ ap (λ (t : List ℕ). take count text ++ t) is_rest ∙ take-append-drop count text))
+            ∙ on.1 ∙ ap (λ (t : List ℕ). t ++ on.0) (sym is_first);
+        whole = inr (omega (arith, long, counted));
+      }
+
+  pub not_none : 0 < count → first ≡ [] → ⊥
+  not_none some none = absurd (omega (arith, some, counted, ap length none))

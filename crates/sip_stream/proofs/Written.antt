@@ -40,7 +40,8 @@ file_push config rounds round outputs is =
     ∙ ap (λ (t : List ℕ). codes "sip-outputs 1\n" ++ t)
     (flat_map-append (λ (r : ℕ × List Output). round_outputs_text r.0 r.1) pairs
     ((round.moment, outputs) ∷ [])
-    ∙ ap (λ (t : List ℕ). rounds_text pairs ++ t) (append-nil (round_outputs_text round.moment outputs)))
+    ∙ ap (λ (t : List ℕ). rounds_text pairs ++ t)
+    (append-nil (round_outputs_text round.moment outputs)))
     ∙ sym (append_assoc (codes "sip-outputs 1\n") (rounds_text pairs)
     (round_outputs_text round.moment outputs))
 
@@ -59,7 +60,8 @@ file_of_none config = append-nil (codes "sip-outputs 1\n")
 
 -- the text of one round, behind the first line
 pub text_alone : (file : List ℕ) (rounds : List (ℕ × Vec Output Global)) (moment : ℕ)
-    (outputs : Vec Output Global) → rounds ≡ (moment, outputs) ∷ [] → file ≡ outputs_text (told rounds)
+    (outputs : Vec Output Global) → rounds ≡ (moment, outputs) ∷ []
+    → file ≡ outputs_text (told rounds)
     → file ≡ codes "sip-outputs 1\n" ++ round_outputs_text moment outputs.items
 unfolding outputs_text
 text_alone file rounds moment outputs one is =

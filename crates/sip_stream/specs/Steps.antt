@@ -1,9 +1,11 @@
 -- Steps of a replay round by round.
-use Rattle.std.specs.Prelude.{◌≡◌, ℕ, List, [], ◌∷◌, ◌++◌, Option, None, Some}
+use Rattle.std.specs.Prelude.{◌≡◌, ◌≢◌, ℕ, Bool, IsTrue, List, [], ◌∷◌, ◌++◌, length, Option, None, Some, IfErr, IfSome, OnOk, Result}
 use Rattle.std.specs.Io.KnownBytes.{Appends, Consumes}
+use Rattle.sip_files.specs.Counted.{Counts}
 use Rattle.sip_files.specs.EventFile.{SpellsFile, TellsFault}
 use Rattle.sip_files.specs.Replay.{answer_file}
 use Rattle.sip_files.specs.Written.{head_in}
+use Rattle.sip_files.specs.declared.events_fault.EventsFault.TheVariants as events_fault
 use Rattle.sip_files.specs.declared.version.FileKind.{FileKind}
 use Rattle.sip_files.specs.declared.version.Version.{Version}
 use Rattle.sip_journal.specs.Rounds.{some_config}
@@ -13,14 +15,15 @@ use Rattle.sip_round.specs.declared.config.Config.{Config}
 use Rattle.sip_round.specs.declared.round.Round.{Round}
 use Rattle.sip_round.specs.declared.round_fault.RoundFault.{RoundFault}
 use Rattle.sip_round.specs.declared.round_fault.RoundFault.TheVariants as round_fault
-use Rattle.sip_stream.specs.Streams.{TellsLines}
+use Rattle.sip_stream.specs.Streams.{IsRounds, StreamsAll, StreamsFront, TellsLines, TellsStream, WritesBefore, input_failures, output_failures}
 use Rattle.sip_stream.specs.declared.stream_fault.StreamFault.{StreamFault}
 use Rattle.sip_stream.specs.declared.stream_fault.StreamFault.TheVariants as fault
 
 -- the lines aren't a head, or memory ran out
 abbrev pub TellsHead : FileKind → List ℕ → StreamFault → Type 0
 TellsHead kind lines fault.Input = ⊥
-TellsHead kind lines (fault.Head given) = TellsFault kind given lines
+TellsHead kind lines (fault.Head given) =
+    TellsFault kind given lines × (given ≢ events_fault.NoMemory)
 TellsHead kind lines (fault.Lines at given) = ⊥
 TellsHead kind lines (fault.Round at given) = ⊥
 TellsHead kind lines fault.Output = ⊥
@@ -69,29 +72,53 @@ refused_as index round_fault.TooManyEvents = fault.Round index round_fault.TooMa
 refused_as index round_fault.RoundsUsedUp = fault.Round index round_fault.RoundsUsedUp
 refused_as index (round_fault.NoMemory broken) = fault.NoMemory
 
--- what a fault of one more round tells
-abbrev pub TellsStep : Config → List Round → Round → StreamFault → Type 0
-TellsStep config rounds round fault.Input = ⊥
-TellsStep config rounds round (fault.Head given) = ⊥
-TellsStep config rounds round (fault.Lines at given) = ⊥
-TellsStep config rounds round (fault.Round at given) =
-    refused config (rounds ++ round ∷ []) ≡ Some (at, given)
-TellsStep config rounds round fault.Output = Unit {0}
-TellsStep config rounds round fault.NoMemory = Unit {0}
+-- what a fault of one more round tells; nothing is written for one that is refused
+abbrev pub TellsStep : Option (List ℕ) → Option (List ℕ) → Config → List Round → Round
+    → StreamFault → Type 0
+TellsStep old new config rounds round fault.Input = ⊥
+TellsStep old new config rounds round (fault.Head given) = ⊥
+TellsStep old new config rounds round (fault.Lines at given) = ⊥
+TellsStep old new config rounds round (fault.Round at given) =
+    (at ≡ length rounds) × (refused config (rounds ++ round ∷ []) ≡ Some (at, given))
+    × Appends old new []
+TellsStep old new config rounds round fault.Output = Unit {0}
+TellsStep old new config rounds round fault.NoMemory = Unit {0}
 
 -- ---- the whole
 
--- The rounds of this file were run, and their output file was written. The head is one of the
--- file's version.
+-- The rounds of this file were run, and their output file was written and flushed. The head is one
+-- of the file's version. What is left are rounds. No device failed.
 pub record SoFar {C : Type 0} (shard_of : C → List ℕ → ℕ → ℕ) (kind : FileKind)
     (agent : AgentState C) (first : ℕ) (head : List ℕ)
-    (input pending old_bytes new_bytes : Option (List ℕ)) : Type 0 where
+    (input pending old_bytes new_bytes : Option (List ℕ))
+    (old_reads new_reads old_writes new_writes : Option ℕ) (flushed : Option Bool) : Type 0 where
   pub config : Config
   pub rounds : List Round
   pub file : List ℕ
   pub spelled : SpellsFile kind config rounds file
   pub consumed : Consumes input pending file
+  pub next : IfSome pending IsRounds
   pub stands : Stands shard_of agent config rounds
   pub numbered : first ≡ config.first
   pub headed : head ≡ head_in (spelled.0) some_config
   pub appended : Appends old_bytes new_bytes (answer_file config rounds)
+  pub reads : Counts old_reads new_reads 0
+  pub writes : Counts old_writes new_writes 0
+  pub all_flushed : IfSome flushed (λ all. IsTrue all)
+
+-- what was written and what the fault tells of this input
+pub record StopsAt (kind : FileKind) (fault : StreamFault) (old new : Option (List ℕ))
+    (input : List ℕ) : Type 0 where
+  pub front : StreamsFront kind old new input
+  pub written : WritesBefore kind fault old new input
+  pub tells : TellsStream kind fault input
+
+-- how a replay round by round ends
+pub record Ends {T : Type 0} (kind : FileKind) (input old_bytes new_bytes : Option (List ℕ))
+    (old_reads new_reads old_writes new_writes : Option ℕ) (flushed : Option Bool)
+    (result : Result T StreamFault) : Type 0 where
+  pub all : OnOk result (IfSome input (StreamsAll kind old_bytes new_bytes))
+  pub stops : IfErr result (λ fault. IfSome input (StopsAt kind fault old_bytes new_bytes))
+  pub reads : Counts old_reads new_reads (input_failures result)
+  pub writes : Counts old_writes new_writes (output_failures result)
+  pub all_flushed : OnOk result (IfSome flushed (λ all. IsTrue all))

@@ -2,7 +2,8 @@
 
 ghost use Rattle.std.specs.Prelude.{◌≡◌, ◌⊎◌, ◌≤◌, [], false, drop, length, take, IfErr, IfOk, IfSome, OnOk};
 ghost use Rattle.std.specs.Io.KnownBytes.{Consumes, IsAtEnd, Keeps, prepend_known};
-ghost use Rattle.sip_stream.specs.Streams.{IsNext};
+ghost use Rattle.sip_files.specs.Counted.{Counts};
+ghost use Rattle.sip_stream.specs.Streams.{IsNext, input_failures};
 ghost use Rattle.sip_stream.specs.declared.stream_fault.StreamFault.TheVariants as stream_fault;
 
 use crate::stream_fault::StreamFault;
@@ -13,6 +14,12 @@ use std::mem;
 
 /// How many bytes one read asks for.
 const CHUNK: usize = 4096;
+
+/// More bytes than a file may have.
+const TOO_MANY: usize = MAX_EVENTS + 1;
+
+/// The beginning of a line that begins a round.
+const ROUND: &[u8] = b"round ";
 
 /// What was read and not given yet.
 #[derive(Drop)]
@@ -31,7 +38,7 @@ impl RoundReader {
     }
 
     /// The lines up to the next one that begins a round; none at the end. Of lines that are longer
-    /// than a file may be, it gives as many as it has.
+    /// than a file may be, it may give only a front that is, too.
     ///
     /// # Errors
     ///
@@ -50,12 +57,18 @@ impl RoundReader {
             → IsAtEnd (prepend_known self.new.text.items (R.remaining reader.new))) }
         ensures fault { IfErr result (λ fault.
             (fault ≡ stream_fault.Input) ⊎ (fault ≡ stream_fault.NoMemory)) }
+        ensures input { Counts (R.failures reader.old) (R.failures reader.new)
+            (input_failures result) }
     {
         let mut has_more = true;
-        for _ in 0..=MAX_EVENTS {
+        for _ in 0..=TOO_MANY + ROUND.len() {
             let len = first_round_of(&self.text).len();
-            if len < self.text.len() || !has_more || self.text.len() > MAX_EVENTS {
+            if len < self.text.len() || !has_more {
                 return Ok(self.take(len)?);
+            }
+            // The line that begins the next round may have come in part.
+            if self.text.len() >= TOO_MANY + ROUND.len() {
+                return Ok(self.take(TOO_MANY)?);
             }
             has_more = self.read_more(reader)?;
         }
@@ -83,6 +96,8 @@ impl RoundReader {
             (λ has_more. has_more ≡ false → IsAtEnd (R.remaining reader.new)) }
         ensures fault { IfErr result (λ fault.
             (fault ≡ stream_fault.Input) ⊎ (fault ≡ stream_fault.NoMemory)) }
+        ensures input { Counts (R.failures reader.old) (R.failures reader.new)
+            (input_failures result) }
     {
         let mut chunk = [0u8; CHUNK];
         for _ in 0..=self.text.len() / CHUNK {

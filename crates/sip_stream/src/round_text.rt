@@ -1,6 +1,6 @@
 //! The lines of one round, read behind a head.
 
-ghost use Rattle.std.specs.Prelude.{◌≡◌, ◌≢◌, ◌++◌, ◌∷◌, [], IfErr, IfNone, IfOk, IfSome, List, length, ℕ};
+ghost use Rattle.std.specs.Prelude.{◌≡◌, ◌≢◌, ◌≤◌, ◌^◌, ◌++◌, ◌∷◌, [], IfErr, IfNone, IfOk, IfSome, List, OnOk, length, ℕ};
 ghost use Rattle.sip_files.specs.EventFile.{SpellsFile, TellsFault, version_line};
 ghost use Rattle.sip_files.specs.Written.{head_in};
 ghost use Rattle.sip_files.specs.declared.version.FileKind.{FileKind};
@@ -54,6 +54,7 @@ pub(crate) fn read_round(
 ) -> Result<Round, StreamFault>
     ensures found { IfOk result (λ round. (config : AConfig)
         × SpellsFile kind config (round ∷ []) (head.now ++ lines.now)) }
+    ensures size { OnOk result (length (head.now ++ lines.now) ≤ 2 ^ 26) }
     ensures fault { (version : Version) → head.now ≡ head_in version some_config
         → IfErr result (TellsRound kind version index lines.now) }
 {

@@ -1,9 +1,10 @@
 //! Replays a file round by round.
 
-ghost use Rattle.std.specs.Prelude.{◌<◌, ◌≤◌, [], IfErr, IfOk, IfSome, OnErr, OnOk};
+ghost use Rattle.std.specs.Prelude.{◌<◌, ◌≤◌, ◌^◌, [], IfErr, IfOk, IfSome, IsTrue, OnErr, OnOk, length};
+ghost use Rattle.sip_files.specs.Counted.{Counts};
 ghost use Rattle.sip_files.specs.EventFile.{SpellsFile};
-ghost use Rattle.sip_stream.specs.Steps.{TellsHead};
-ghost use Rattle.sip_stream.specs.Streams.{StreamsAll, StreamsFront, TellsStream};
+ghost use Rattle.sip_stream.specs.Steps.{Ends, TellsHead};
+ghost use Rattle.sip_stream.specs.Streams.{ComesOnly, StreamsAll, StreamsFront, TellsStream, WritesBefore, input_failures, output_failures};
 
 use crate::round_reader::RoundReader;
 use crate::round_text::{head_like, read_round};
@@ -17,12 +18,14 @@ use std::thread::Threads;
 
 /// Reads a file of this kind, of any length, round by round: each round is read, run in `shards`
 /// shards, cut by `cut`, on up to `workers` workers, and its outputs are written, before the next
-/// one is read. So it holds in memory what the agent holds, and one round.
+/// one is read. So it holds in memory what the agent holds, and one round. The head, and each round
+/// behind a head, may have 2^26 bytes.
 ///
 /// # Errors
 ///
-/// The first fault that comes. What was written before is a front of the output file of the rounds
-/// that were read.
+/// The first fault that comes. `Input` at the first read that fails. `Output` at the first write
+/// that fails or takes nothing, or at a flush that fails. Neither device is asked again. What was
+/// written before is a front of the output file of the rounds that were read.
 pub fn replay_streamed<T: Threads + Sync, R: CountedRead, W: CountedWrite, C: Cut + Drop, G: Gate>(
     rt: &T,
     alloc: Global,
@@ -42,8 +45,39 @@ pub fn replay_streamed<T: Threads + Sync, R: CountedRead, W: CountedWrite, C: Cu
         (StreamsAll kind (W.contents writer.old) (W.contents writer.new))) }
     ensures front { OnErr result (IfSome (R.remaining reader.old)
         (StreamsFront kind (W.contents writer.old) (W.contents writer.new))) }
+    ensures written { IfErr result (λ fault. IfSome (R.remaining reader.old)
+        (WritesBefore kind fault (W.contents writer.old) (W.contents writer.new))) }
     ensures fault { IfErr result
         (λ fault. IfSome (R.remaining reader.old) (TellsStream kind fault)) }
+    ensures only { IfErr result
+        (λ fault. IfSome (R.remaining reader.old) (ComesOnly kind fault)) }
+    ensures input { Counts (R.failures reader.old) (R.failures reader.new) (input_failures result) }
+    ensures output { Counts (W.failures writer.old) (W.failures writer.new)
+        (output_failures result) }
+    ensures flushed { OnOk result (IfSome (W.flushed writer.new) (λ all. IsTrue all)) }
+{
+    stream(rt, alloc, kind, reader, writer, shards, workers, cut, gate)
+}
+
+// The head, and then one round after the other.
+fn stream<T: Threads + Sync, R: CountedRead, W: CountedWrite, C: Cut + Drop, G: Gate>(
+    rt: &T,
+    alloc: Global,
+    kind: FileKind,
+    reader: &mut R,
+    writer: &mut W,
+    shards: usize,
+    workers: usize,
+    cut: C,
+    gate: &G,
+) -> Result<(), StreamFault>
+    requires some_shard { 0 < shards }
+    requires most_shards { shards ≤ 256 }
+    requires some_worker { 0 < workers }
+    requires most_workers { workers ≤ 64 }
+    ensures { Ends kind (R.remaining reader.old) (W.contents writer.old) (W.contents writer.new)
+        (R.failures reader.old) (R.failures reader.new) (W.failures writer.old)
+        (W.failures writer.new) (W.flushed writer.new) result }
 {
     let mut input = RoundReader::new(alloc);
     let lines = input.next_lines(reader)?;
@@ -68,6 +102,7 @@ pub fn replay_streamed<T: Threads + Sync, R: CountedRead, W: CountedWrite, C: Cu
 // The configuration that a head says.
 fn read_head(alloc: Global, kind: FileKind, lines: &[u8]) -> Result<Config, StreamFault>
     ensures found { IfOk result (λ config. SpellsFile kind config [] lines.now) }
+    ensures size { OnOk result (length lines.now ≤ 2 ^ 26) }
     ensures fault { IfErr result (TellsHead kind lines.now) }
 {
     match read_file(alloc, kind, lines) {

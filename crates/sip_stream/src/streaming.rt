@@ -1,11 +1,13 @@
 //! An agent whose outputs are written round by round.
 
-ghost use Rattle.std.specs.Prelude.{◌≡◌, ◌<◌, ◌≤◌, ◌-◌, [], IfErr, IfOk, List, OnErr, OnOk};
+ghost use Rattle.std.specs.Prelude.{◌≡◌, ◌<◌, ◌≤◌, ◌-◌, [], IfErr, IfOk, IfSome, IsTrue, List, OnErr, OnOk};
+ghost use Rattle.sip_files.specs.Counted.{Counts};
 ghost use Rattle.sip_files.specs.Outputs.{round_outputs_text};
 ghost use Rattle.sip_round.specs.declared.config.Config.{Config as AConfig};
 ghost use Rattle.sip_round.specs.declared.round.Round.{Round as ARound};
 ghost use Rattle.sip_stream.specs.Steps as steps;
 ghost use Rattle.sip_stream.specs.Steps.{GoesOn, Stands, Stops, TellsStep};
+ghost use Rattle.sip_stream.specs.Streams.{output_failures};
 ghost use Rattle.sip_stream.specs.declared.stream_fault.StreamFault.TheVariants as stream_fault;
 
 use crate::stream_fault::StreamFault;
@@ -69,11 +71,12 @@ impl<C: Cut + Drop> Streaming<C> {
         self.agent.next_round().saturating_sub(self.first)
     }
 
-    /// Runs a round, and writes its outputs.
+    /// Runs a round, writes its outputs, and flushes.
     ///
     /// # Errors
     ///
-    /// `Round` with its index if it is refused; `Output` or `NoMemory`.
+    /// `Round` with its index if it is refused, and then nothing is written; `Output` or
+    /// `NoMemory`.
     pub(crate) fn run<R: Threads + Sync, W: CountedWrite, G: Gate>(
         &mut self,
         rt: &R,
@@ -91,7 +94,11 @@ impl<C: Cut + Drop> Streaming<C> {
             → Stops (W.contents writer.old) (W.contents writer.new) config rounds round.now) }
         ensures fault { IfErr result (λ fault. (config : AConfig) (rounds : List ARound)
             → Stands C.shard_of self.old.agent config rounds → self.old.first ≡ config.first
-            → TellsStep config rounds round.now fault) }
+            → TellsStep (W.contents writer.old) (W.contents writer.new) config rounds round.now
+            fault) }
+        ensures output { Counts (W.failures writer.old) (W.failures writer.new)
+            (output_failures result) }
+        ensures flushed { OnOk result (IfSome (W.flushed writer.new) (λ all. IsTrue all)) }
     {
         let index = self.index();
         let outputs = match self.agent.run_round(rt, round, self.workers, gate) {

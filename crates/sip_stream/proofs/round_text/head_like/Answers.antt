@@ -8,7 +8,8 @@ use Rattle.sip_stream.proofs.round_text.head_like.Goals as goal
 pub returns-in_default-cut : goal.returns-in_default-cut
 returns-in_default-cut c = λ version after begins.
     absurd (written_has_line c.in_ok-written.written.items
-    (c.in_ok-written.ensures ∙ ap (file_head file_kind.Events) c.some_config.ensures) (search rules))
+    (c.in_ok-written.ensures ∙ ap (file_head file_kind.Events) c.some_config.ensures)
+    (search rules))
 
 pub returns : goal.returns
 returns c =

@@ -1,9 +1,9 @@
--- `next_lines` gives the lines of the first round.
-use Rattle.std.proofs.Common.{◌≡◌, ◌∙◌, ap, inl, inr, length, arith}
+-- `next_lines` gives the lines of the first round, or a front of too many.
+use Rattle.std.proofs.Common.{◌≡◌, ◌≤◌, ◌+◌, ◌^◌, ◌∙◌, ap, inl, inr, length, arith}
 use Rattle.sip_journal.specs.Rounds.{first_round}
-use Rattle.sip_stream.proofs.Reading.{MayBeGiven, at_end, fits, given, is_next}
+use Rattle.sip_stream.proofs.Reading.{MayBeGiven, at_end, fits, given, is_long, is_next, not_none}
 use Rattle.sip_stream.proofs.round_reader.RoundReader.next_lines.Goals as goal
-use Rattle.sip_stream.proofs.round_reader.RoundReader.next_lines.Goals.{then-len-via-then-len, then-len-via-else-len+then-not-has_more, then-len-via-else-len+else-not-has_more+then-len-gt-MAX_EVENTS}
+use Rattle.sip_stream.proofs.round_reader.RoundReader.next_lines.Goals.{then-len-via-then-len, then-len-via-else-len+then-not-has_more}
 
 pub take-requires : goal.take-requires
 take-requires g c =
@@ -23,9 +23,7 @@ returns-then-len-clause-next g c =
     ap length (c.first_round_of-len.ensures ∙ ap first_round c.deref.ensures.value) in
     let may : MayBeGiven len text c.loop.has_more = elim c.then-len.branch [
       | then-len-via-then-len w ↦ inl (omega (arith, w.if-len.true, c.len.ensures))
-      | then-len-via-else-len+then-not-has_more w ↦ inr (inl w.if-not-has_more.true)
-      | then-len-via-else-len+else-not-has_more+then-len-gt-MAX_EVENTS w ↦
-          inr (inr (omega (arith, w.if-len-gt-MAX_EVENTS.true, w.len-else-not-has_more.ensures)))
+      | then-len-via-else-len+then-not-has_more w ↦ inr w.if-not-has_more.true
     ] in
     is_next text _ _ len is_len c.in_ok-take.ensures.taken c.in_ok-take.ensures.rest _
     c.loop.has_more may c.loop.invariant.1
@@ -38,9 +36,36 @@ returns-then-len-clause-end g c = λ none.
     ap length (c.first_round_of-len.ensures ∙ ap first_round c.deref.ensures.value) in
     let may : MayBeGiven len text c.loop.has_more = elim c.then-len.branch [
       | then-len-via-then-len w ↦ inl (omega (arith, w.if-len.true, c.len.ensures))
-      | then-len-via-else-len+then-not-has_more w ↦ inr (inl w.if-not-has_more.true)
-      | then-len-via-else-len+else-not-has_more+then-len-gt-MAX_EVENTS w ↦
-          inr (inr (omega (arith, w.if-len-gt-MAX_EVENTS.true, w.len-else-not-has_more.ensures)))
+      | then-len-via-else-len+then-not-has_more w ↦ inr w.if-not-has_more.true
     ] in
     at_end text _ _ len is_len c.in_ok-take.ensures.taken c.in_ok-take.ensures.rest _
     c.loop.has_more may c.loop.invariant.1 none
+
+pub returns-then-len-2-clause-given : goal.returns-then-len-2-clause-given
+returns-then-len-2-clause-given g c =
+    given _ _ c.loop.self.text.items _ _ (2 ^ 26 + 1) c.loop.invariant.0
+    c.in_ok-take-2.ensures.taken c.in_ok-take-2.ensures.rest
+
+pub returns-then-len-2-clause-next : goal.returns-then-len-2-clause-next
+returns-then-len-2-clause-next g c =
+    let text = c.loop.self.text.items in
+    let len = length c.first_round_of-len.result.now in
+    let is_len : len ≡ length (first_round text) =
+    ap length (c.first_round_of-len.ensures ∙ ap first_round c.deref.ensures.value) in
+    let all : length text ≤ len = omega (arith, c.if-len.false, c.len.ensures) in
+    let fits : (2 ^ 26 + 1) + 6 ≤ length text =
+    omega (arith, c.if-len-2.true, c.len-in-loop.ensures) in
+    is_long text _ _ len (2 ^ 26 + 1) is_len all fits c.in_ok-take-2.ensures.taken
+    c.in_ok-take-2.ensures.rest (omega arith) _
+
+pub returns-then-len-2-clause-end : goal.returns-then-len-2-clause-end
+returns-then-len-2-clause-end g c = λ none.
+    let text = c.loop.self.text.items in
+    let len = length c.first_round_of-len.result.now in
+    let is_len : len ≡ length (first_round text) =
+    ap length (c.first_round_of-len.ensures ∙ ap first_round c.deref.ensures.value) in
+    let all : length text ≤ len = omega (arith, c.if-len.false, c.len.ensures) in
+    let fits : (2 ^ 26 + 1) + 6 ≤ length text =
+    omega (arith, c.if-len-2.true, c.len-in-loop.ensures) in
+    absurd (not_none text _ _ len (2 ^ 26 + 1) is_len all fits c.in_ok-take-2.ensures.taken
+    c.in_ok-take-2.ensures.rest (omega arith) none)

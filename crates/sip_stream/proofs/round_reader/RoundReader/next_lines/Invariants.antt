@@ -1,7 +1,8 @@
--- The loop of `next_lines`: what is left to give stays the same, and where nothing more comes, it is
--- the text.
+-- The loop of `next_lines`: what is left to give stays the same, and where nothing more comes, it
+-- is the text. No read failed.
 use Rattle.std.proofs.Common.{◌≡◌, false}
 use Rattle.std.specs.Io.KnownBytes.{IsAtEnd, Keeps, prepend_known}
+use Rattle.sip_files.specs.Counted.{Counts}
 use Rattle.sip_stream.proofs.round_reader.RoundReader.next_lines.Given as goal
 
 abbrev pub invariant-loop : goal.invariant-loop
@@ -9,3 +10,4 @@ invariant-loop g l =
     Keeps (prepend_known l.fn.self.text.items (g.R.CountedRead.remaining l.fn.reader))
     (prepend_known l.self.text.items (g.R.CountedRead.remaining l.reader))
     × (l.has_more ≡ false → IsAtEnd (g.R.CountedRead.remaining l.reader))
+    × Counts (g.R.CountedRead.failures l.fn.reader) (g.R.CountedRead.failures l.reader) 0

@@ -11,9 +11,10 @@ returns-in-Err-clause-stops g c = λ config rounds s.
 
 pub returns-in-Err-clause-fault : goal.returns-in-Err-clause-fault
 returns-in-Err-clause-fault g c = λ config rounds s first.
-    subst (λ f. TellsStep config rounds c.args.round.now f) (sym c.refused_as.ensures)
+    let known = g.W.CountedWrite.contents c.args.writer.now in
+    subst (λ f. TellsStep known known config rounds c.args.round.now f) (sym c.refused_as.ensures)
     (tells_refused g.C.Cut.shard_of _ _ c.args.self.now.agent c.args.round.now
-    c.index-index.result c.run_round.result c.in-Err.fault c.in-Err.is
+    c.index-index.result known c.run_round.result c.in-Err.fault c.in-Err.is
     c.run_round.ensures.ends.refused c.run_round.ensures.ends.memory config rounds s
     (c.index-index.ensures
     ∙ index_is g.C.Cut.shard_of c.args.self.now.agent config rounds c.args.self.now.first s.stands

@@ -1,7 +1,7 @@
--- The loop of `replay_streamed`: the rounds so far were run, and their output file was written.
+-- The loop of `stream`: the rounds so far were run, and their output file was written.
 use Rattle.std.specs.Io.KnownBytes.{prepend_known}
 use Rattle.sip_stream.specs.Steps.{SoFar}
-use Rattle.sip_stream.proofs.streamed_replay.replay_streamed.Given as goal
+use Rattle.sip_stream.proofs.streamed_replay.stream.Given as goal
 
 abbrev pub invariant-loop : goal.invariant-loop
 invariant-loop g l =
@@ -9,3 +9,6 @@ invariant-loop g l =
     (g.R.CountedRead.remaining l.fn.reader)
     (prepend_known l.input.text.items (g.R.CountedRead.remaining l.reader))
     (g.W.CountedWrite.contents l.fn.writer) (g.W.CountedWrite.contents l.writer)
+    (g.R.CountedRead.failures l.fn.reader) (g.R.CountedRead.failures l.reader)
+    (g.W.CountedWrite.failures l.fn.writer) (g.W.CountedWrite.failures l.writer)
+    (g.W.CountedWrite.flushed l.writer)

@@ -1,0 +1,118 @@
+-- `stream`: at each step what was read, run and written belongs together.
+use Rattle.std.proofs.Common.{rules, arith, ◌≡◌, ◌^◌, ◌≤◌, ◌∙◌, [], length, refl, sym, subst, inr}
+use Rattle.std.proofs.lemmas.Bool.{eqb-true}
+use Rattle.std.proofs.lemmas.List.{nil_from_length}
+use Rattle.sip_files.specs.EventFile.{SpellsFile}
+use Rattle.sip_files.proofs.Streams.{counts_none}
+use Rattle.sip_stream.specs.Steps.{TellsHead, TellsRound}
+use Rattle.sip_stream.specs.declared.stream_fault.StreamFault.TheVariants as fault
+use Rattle.sip_stream.proofs.Going.{all_written, begun, begun_stops, first_stops, fits_as, from_start, head_stops, one_more, read_as, round_stops, same_text, some_lines, step_stops, unread, write_failed}
+use Rattle.sip_stream.proofs.streamed_replay.stream.Goals as goal
+
+pub returns-in_err-lines : goal.returns-in_err-lines
+returns-in_err-lines g c =
+    first_stops c.args.kind _ _ _ _ _ _ c.from_residual.result c.in_err-lines.field-0.0
+    (search rules) c.in_err-lines.ensures.fault c.in_err-lines.ensures.input
+
+pub returns-in_err-config : goal.returns-in_err-config
+returns-in_err-config g c =
+    let given = c.in_err-config.field-0.0 in
+    head_stops c.args.kind _ _ _ _ _ _ _ c.from_residual-in_err-config.result given
+    c.in_ok-lines.lines.items (search rules)
+    (from_start _ _ _ _ c.new-input.ensures c.in_ok-lines.ensures.given) c.in_ok-lines.ensures.next
+    (subst (λ t. TellsHead c.args.kind t given) c.deref.ensures.value c.in_err-config.ensures.fault)
+    c.in_ok-lines.ensures.input
+
+pub returns-in_err-head : goal.returns-in_err-head
+returns-in_err-head g c =
+    first_stops c.args.kind _ _ _ _ _ _ c.from_residual-in_err-head.result fault.NoMemory
+    (search rules) (inr refl) c.in_ok-lines.ensures.input
+
+pub returns-in_err-streaming : goal.returns-in_err-streaming
+returns-in_err-streaming g c =
+    first_stops c.args.kind _ _ _ _ _ _ c.from_residual-in_err-streaming.result fault.NoMemory
+    (search rules) (inr refl) c.in_ok-lines.ensures.input
+
+pub returns-in_default : goal.returns-in_default
+returns-in_default g c =
+    let kept = c.in_default.ensures.front in
+    begun_stops g.C.Cut.shard_of c.args.kind c.in_ok-config.config c.in_ok-lines.lines.items _
+    kept.0 kept.1 _ _ _ _ _ _ _ _ _ _ refl
+    (subst (λ t. SpellsFile c.args.kind c.in_ok-config.config [] t) c.deref.ensures.value
+    c.in_ok-config.ensures.found)
+    (from_start _ _ _ _ c.new-input.ensures c.in_ok-lines.ensures.given) c.in_ok-lines.ensures.next
+    (subst (λ t. length t ≤ 2 ^ 26) c.deref.ensures.value c.in_ok-config.ensures.size)
+    (search rules) kept.2 kept.3 c.in_ok-lines.ensures.input
+    (write_failed _ _ _ c.in_default.ensures.fault c.in_default.ensures.output)
+
+pub loop-init : goal.loop-init
+loop-init g c =
+    begun g.C.Cut.shard_of c.args.kind c.in_ok-streaming.streaming.agent
+    c.in_ok-streaming.streaming.first c.in_ok-config.config c.in_ok-head.head.items
+    c.in_ok-lines.lines.items _ _ _ _ _ _ _ _ _ _
+    (subst (λ t. SpellsFile c.args.kind c.in_ok-config.config [] t) c.deref.ensures.value
+    c.in_ok-config.ensures.found)
+    (λ version after begins.
+    c.in_ok-head.ensures version after (c.deref-2.ensures.value ∙ begins))
+    (from_start _ _ _ _ c.new-input.ensures c.in_ok-lines.ensures.given) c.in_ok-lines.ensures.next
+    (subst (λ t. length t ≤ 2 ^ 26) c.deref.ensures.value c.in_ok-config.ensures.size)
+    c.in_ok-streaming.ensures.stands c.in_ok-streaming.ensures.first (search rules)
+    c.in-Ok.ensures.all c.in_ok-lines.ensures.input c.in-Ok.ensures.output c.in-Ok.ensures.flushed
+
+pub returns-in_err-lines-2 : goal.returns-in_err-lines-2
+returns-in_err-lines-2 g c =
+    unread g.C.Cut.shard_of c.args.kind c.loop.invariant _ c.from_residual-in_err-lines-2.result
+    c.in_err-lines-2.field-0.0 (search rules) c.in_err-lines-2.ensures.fault
+    c.in_err-lines-2.ensures.input
+
+pub returns-then-is_empty : goal.returns-then-is_empty
+returns-then-is_empty g c =
+    let lines = c.in_ok-lines-2.lines in
+    let empty : lines.len ≡ 0 =
+    eqb-true lines.len 0 (sym c.is_empty.ensures ∙ c.if-is_empty.true) in
+    let none : lines.items ≡ [] =
+    nil_from_length lines.items (omega (arith, lines.ok.0, empty)) in
+    all_written g.C.Cut.shard_of c.args.kind c.loop.invariant tt _ lines.items _
+    c.in_ok-lines-2.ensures.given none (c.in_ok-lines-2.ensures.end none)
+    c.in_ok-lines-2.ensures.input
+
+pub returns-in_err-round : goal.returns-in_err-round
+returns-in_err-round g c =
+    let given = c.in_err-round.field-0.0 in
+    let lines = c.in_ok-lines-2.lines in
+    round_stops g.C.Cut.shard_of c.args.kind c.loop.invariant _ c.in_ok-lines-2.lines.items _
+    c.in_ok-lines-2.ensures.given c.in_ok-lines-2.ensures.next c.in_ok-lines-2.ensures.input
+    c.from_residual-in_err-round.result given c.index.result (search rules)
+    (some_lines lines.items lines.len lines.ok.0 (sym c.is_empty.ensures ∙ c.if-is_empty.false))
+    c.index.ensures
+    (λ version headed.
+    subst (λ t. TellsRound c.args.kind version c.index.result t given)
+    c.deref-in-loop-2.ensures.value
+    (c.in_err-round.ensures.fault version (c.deref-in-loop.ensures.value ∙ headed)))
+
+pub returns-in_err-run : goal.returns-in_err-run
+returns-in_err-run g c =
+    let text = same_text _ _ _ _ c.deref-in-loop.ensures.value c.deref-in-loop-2.ensures.value in
+    step_stops g.C.Cut.shard_of c.args.kind c.loop.invariant _ c.in_ok-lines-2.lines.items _
+    c.in_ok-lines-2.ensures.given c.in_ok-lines-2.ensures.next c.in_ok-lines-2.ensures.input
+    c.in_ok-round.round
+    (read_as c.args.kind c.in_ok-round.round _ _ text c.in_ok-round.ensures.found)
+    (fits_as _ _ text c.in_ok-round.ensures.size) _ _ c.in_err-run.ensures.stops _
+    c.from_residual-in_err-run.result c.in_err-run.field-0.0
+    (search rules) c.in_err-run.ensures.fault c.in_err-run.ensures.output
+
+pub loop-preserved : goal.loop-preserved
+loop-preserved g c =
+    let text = same_text _ _ _ _ c.deref-in-loop.ensures.value c.deref-in-loop-2.ensures.value in
+    one_more g.C.Cut.shard_of c.args.kind c.loop.invariant _ c.in_ok-lines-2.lines.items _
+    c.in_ok-lines-2.ensures.given c.in_ok-lines-2.ensures.next c.in_ok-lines-2.ensures.input
+    c.in_ok-round.round
+    (read_as c.args.kind c.in_ok-round.round _ _ text c.in_ok-round.ensures.found)
+    (fits_as _ _ text c.in_ok-round.ensures.size) c.run.new.self.agent c.run.new.self.first _ _ _
+    c.run.ensures.same
+    c.in_ok-run.ensures.goes_on c.in_ok-run.ensures.output c.in_ok-run.ensures.flushed
+
+pub returns : goal.returns
+returns g c =
+    unread g.C.Cut.shard_of c.args.kind c.loop.invariant _ _ fault.NoMemory refl (inr refl)
+    (counts_none _)
