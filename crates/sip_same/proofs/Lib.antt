@@ -1,0 +1,5 @@
+pub mod SameKeys
+pub mod SameLists
+pub mod SameMaps
+pub mod SameParameters
+pub mod SameRests
