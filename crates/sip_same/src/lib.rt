@@ -8,6 +8,7 @@ mod lists;
 mod maps;
 mod messages;
 mod ordered_maps;
+mod reliable;
 mod same_value;
 mod texts;
 

@@ -6,7 +6,7 @@ use crate::same_value::SameValue;
 use sip_text::{Boxed, Series};
 
 /// Whether two lists have the same values in the same order.
-#[tactic(auto, using(crate::proofs::SameLists::same_at, crate::proofs::SameLists::one_more_same))]
+#[tactic(auto, using(sip_reliable::proofs::SameLists::same_at, sip_reliable::proofs::SameLists::one_more_same))]
 pub fn are_same<T: SameValue>(values: &[T], others: &[T]) -> bool
     ensures { IsTrue result ↔ (values.now ≡ others.now) }
 {
