@@ -9,7 +9,9 @@ ghost use Rattle.sip_calls.specs.Call.{call_machine};
 
 use crate::call::Call;
 use crate::calls::Calls;
-use keyed_machine::{ComparableShard, Item as ShardItem, KeyShard, PhaseOutputs, ShardFault, Table};
+use keyed_machine::{
+    ComparableShard, Item as ShardItem, KeyShard, PhaseOutputs, ShardFault, Table,
+};
 use seeded_hash::HashSeed;
 use sip_message::{Addr, CallId, Id};
 use sip_user::{CallOut, Item};
