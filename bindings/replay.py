@@ -271,8 +271,8 @@ def resumes(library: str) -> bool:
         b"Max-Forwards: 70\r\nFrom: <sip:c@d>;tag=f1\r\nTo: <sip:a@192.0.2.1>\r\nCall-ID: c1\r\n"
         b"CSeq: 1 INVITE\r\nContact: <sip:c@192.0.2.9>\r\n\r\n"
     )
-    ring = sip_ua.Response("c1", (0, 1), 180, "Ringing", headers=[("Server", "x y")])
-    answer = sip_ua.Response("c1", (0, 1), 200, "OK")
+    ring = sip_ua.Response("c1", sip_ua.Id(0, 1), 180, "Ringing", headers=[("Server", "x y")])
+    answer = sip_ua.Response("c1", sip_ua.Id(0, 1), 200, "OK")
     with Agent(library, ("192.0.2.1", 5060), bytes(32)) as one:
         assert one.round_text() == b""
         one.datagram(source, invite)

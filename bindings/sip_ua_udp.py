@@ -14,11 +14,24 @@ import asyncio
 import os
 import re
 import socket
-from typing import Callable, Optional, Tuple, Union, cast
+import time
+from typing import Callable, Iterable, Optional, Tuple, Union, cast
 
-from sip_ua import LARGEST_DATAGRAM, Agent, Command, Drop, Error, Id, Notice, Send, Status
+from sip_ua import (
+    LARGEST_DATAGRAM,
+    Agent,
+    Command,
+    Drop,
+    Error,
+    Id,
+    Notice,
+    Output,
+    Send,
+    Status,
+)
+from sip_ua_journal import FileJournal, Journal, Resumed, resumed
 
-__all__ = ["Endpoint", "MOST_TRANSACTIONS", "open_endpoint"]
+__all__ = ["Endpoint", "MOST_TRANSACTIONS", "open_endpoint", "open_resumed"]
 
 # How many transactions are held at one time: those of some 3,000 requests a second.
 MOST_TRANSACTIONS = 100000
@@ -36,14 +49,24 @@ class Endpoint(asyncio.DatagramProtocol):
     Via and Contact say. `lost` counts the datagrams that had no room in a round or above
     `most_transactions`."""
 
-    def __init__(self, agent: Agent, local: Address, on_told: OnTold, most_transactions: int):
+    def __init__(
+        self,
+        agent: Agent,
+        local: Address,
+        on_told: OnTold,
+        most_transactions: int,
+        journal: Optional[Journal] = None,
+        moment: int = 0,
+    ):
         self.agent = agent
         self.local = local
         self.lost = 0
         self._most_transactions = most_transactions
         self._on_told = on_told
         self._loop = asyncio.get_running_loop()
-        self._start = self._loop.time()
+        self._journal = journal
+        # The moment of a round is the ms since `_start`.
+        self._start = self._loop.time() - moment / 1000
         self._next: Optional[asyncio.Handle] = None
         self._transport: Optional[asyncio.DatagramTransport] = None
         self._has_failed = False
@@ -104,9 +127,19 @@ class Endpoint(asyncio.DatagramProtocol):
     def _run(self) -> None:
         self._next = None
         outputs = self.agent.run(int((self._loop.time() - self._start) * 1000))
+        if self._journal is not None:
+            try:
+                self._journal.append(self.agent.round_text())
+            except OSError:
+                self.close()
+                raise
         for output in outputs:
             if isinstance(output, Send) and not self._sends(output.datagram, output.to):
                 self._fail(output)
+        self.tell(outputs)
+
+    def tell(self, outputs: Iterable[Output]) -> None:
+        """Tells the notices and drops of a round, and waits for the next one."""
         for output in outputs:
             if isinstance(output, (Notice, Drop)) and not self.is_closed:
                 self._tell(output)
@@ -155,21 +188,65 @@ async def open_endpoint(
     local: Optional[Address] = None,
     seed: Optional[bytes] = None,
     most_transactions: int = MOST_TRANSACTIONS,
+    journal: Union[None, str, Journal] = None,
 ) -> Endpoint:
     """Opens an endpoint whose socket has this address; port 0 takes a free one. `local` is what Via
     and Contact say, if that isn't the socket's address: behind a NAT the one at which peers reach
     it. Without a seed it takes a random one. While `most_transactions` are held, new requests
-    are ignored, except in calls; while twice as many are, these too."""
+    are ignored, except in calls; while twice as many are, these too. With a journal, or the path of
+    one, it goes on where another process ended (sip_ua_journal.py): the notices of the last round
+    are then told again, soon after it is open."""
+    udp = _bound(address)
+    try:
+        own = local or udp.getsockname()
+        kept = FileJournal(journal) if isinstance(journal, str) else journal
+        if kept is None:
+            begun = Resumed(Agent(library, own, os.urandom(32) if seed is None else seed), None, [])
+        else:
+            begun = resumed(library, own, seed, kept)
+    except BaseException:
+        udp.close()
+        raise
+    return await _open(udp, own, on_told, begun, most_transactions, kept)
+
+
+async def open_resumed(
+    address: Address,
+    local: Address,
+    on_told: OnTold,
+    begun: Resumed,
+    journal: Journal,
+    most_transactions: int = MOST_TRANSACTIONS,
+) -> Endpoint:
+    """Opens an endpoint for an agent that has had the rounds of a journal, as a standby has."""
+    return await _open(_bound(address), local, on_told, begun, most_transactions, journal)
+
+
+def _bound(address: Address) -> socket.socket:
     udp = socket.socket(socket.AF_INET, socket.SOCK_DGRAM)
     try:
         udp.setblocking(False)
         udp.bind(address)
-        own = local or udp.getsockname()
-        agent = Agent(library, own, os.urandom(32) if seed is None else seed)
     except BaseException:
         udp.close()
         raise
-    _, endpoint = await asyncio.get_running_loop().create_datagram_endpoint(
-        lambda: Endpoint(agent, own, on_told, most_transactions), sock=udp
+    return udp
+
+
+async def _open(
+    udp: socket.socket,
+    local: Address,
+    on_told: OnTold,
+    begun: Resumed,
+    most_transactions: int,
+    journal: Optional[Journal],
+) -> Endpoint:
+    # With a journal, time goes on while no process runs, and never back.
+    moment = 0 if journal is None else max(int(time.time() * 1000), begun.moment or 0)
+    loop = asyncio.get_running_loop()
+    _, endpoint = await loop.create_datagram_endpoint(
+        lambda: Endpoint(begun.agent, local, on_told, most_transactions, journal, moment), sock=udp
     )
+    if begun.moment is not None:
+        loop.call_soon(endpoint.tell, begun.outputs)
     return endpoint

@@ -1,5 +1,5 @@
 -- Each ACK that a call sends as a text is in the dialog of a 2xx, of which the user is told at one
--- of the call's inputs.
+-- of the call's inputs, and has a branch that an event of the call made.
 use Rattle.std.proofs.Common.{◌≡◌, ℕ, Bool, true, false, List, [], ◌∷◌, ◌++◌, refl, sym, ap, ◌∙◌, subst}
 use Rattle.std.specs.Prelude.{Contains, IfSome, Option, None, Some, codes, unwrap_or, if◌then◌else◌}
 use Rattle.std.specs.List.{AllByRecursion, list_any}
@@ -9,6 +9,7 @@ use Rattle.sip_message.specs.Content.{Content, with_content_of}
 use Rattle.sip_message.specs.Addr.{IsAddr}
 use Rattle.sip_message.specs.Message.{is_request_message}
 use Rattle.sip_message.specs.Party.{tag_of}
+use Rattle.sip_message.specs.TopVia.{top_branch}
 use Rattle.sip_message.specs.declared.id.Id.{Id}
 use Rattle.sip_message.specs.declared.message.Message.{Message}
 use Rattle.keyed_machine.specs.Machine.{Timed, outputs_from}
@@ -40,17 +41,17 @@ use Rattle.sip_clients.specs.Provisionals.{is_response, provisional_number}
 use Rattle.sip_clients.specs.ReceivedResponse.{has_dialog as has_dialog_of}
 use Rattle.sip_clients.specs.Rules.Responses.{dialog_made_by, is_initial, success_in}
 use Rattle.sip_clients.specs.declared.client.Client.{Client}
-use Rattle.sip_clients.specs.declared.event.Event.{Event}
 use Rattle.sip_calls.specs.Call.{CallItem, call_machine, call_step, event_of, received}
 use Rattle.sip_calls.specs.Histories.{call_from}
 use Rattle.sip_calls.specs.OwnCall.{AreSidesOf, IsCallOf, IsInputOf}
-use Rattle.sip_calls.specs.Provisionals.{EventsDiffer, side_held}
+use Rattle.sip_calls.specs.Provisionals.{EventsDiffer, event_in, event_of_kind, side_held}
 use Rattle.sip_calls.specs.Sides.{side_of}
 use Rattle.sip_calls.specs.declared.call.Call.{Call}
 use Rattle.sip_calls.specs.declared.calls.Calls.{Calls}
 use Rattle.sip_calls.proofs.Owing.{owes_as_told}
 use Rattle.sip_calls.proofs.OwnCall.{each_notice_is_own}
-use Rattle.sip_conversation.proofs.Branches.{either}
+use Rattle.sip_conversation.proofs.Branches.{HasBranch, agent_branch, either, made_branch}
+use Rattle.sip_conversation.proofs.CallBranches.{AnyCancel}
 use Rattle.sip_conversation.proofs.DialogOfReply.{Reply, dialog_named, has_so, name_so}
 use Rattle.sip_conversation.proofs.HeardReplies.{WasHeard}
 use Rattle.sip_conversation.proofs.KeepsRules.{KeepsInput, KeepsRulesWith}
@@ -138,154 +139,166 @@ held_of calls call_id state (timed ∷ inputs) its of =
 
 -- ---- the ACKs of a call
 
-module _ (calls : Calls) (call_id : List ℕ) (all : List (Timed CallItem)) where
-  -- an ACK of this Call-ID; at one of the call's inputs the user is told of a 2xx in its dialog, to
-  -- an INVITE with its number
-  pub record IsAckOf (ack : Message) : Type 0 where
-    pub is_request : is_request_message ack ≡ true
-    pub method : ack.cseq.method ≡ codes "ACK"
-    pub call_id_is : ack.call_id ≡ call_id
-    pub heard : WasHeard Is2xx calls all (dialog_id_of_tags (tag_of ack.from) (tag_of ack.to))
-        ack.cseq.number
+module _ (calls : Calls) (call_id : List ℕ) (all : List (Timed CallItem)) (Came : Id → Type 0)
+  where
+    -- an ACK of this Call-ID, with the branch of an event; at one of the call's inputs the user is
+    -- told of a 2xx in its dialog, to an INVITE with its number
+    pub record IsAckOf (ack : Message) : Type 0 where
+      pub is_request : is_request_message ack ≡ true
+      pub method : ack.cseq.method ≡ codes "ACK"
+      pub call_id_is : ack.call_id ≡ call_id
+      pub branch : HasBranch calls.seed call_id Came AnyCancel (top_branch ack)
+      pub heard : WasHeard Is2xx calls all (dialog_id_of_tags (tag_of ack.from) (tag_of ack.to))
+          ack.cseq.number
 
-  made_so : (dialog : Dialog) (number : ℕ) → dialog.call_id ≡ call_id
-      → WasHeard Is2xx calls all (name_of_dialog dialog) number → (event : Event)
-      (content : Content)
-      → IsAckOf (request_in dialog (codes "ACK") number content (branch_of event) event.local)
-  unfolding with_content_of
-  made_so dialog number its heard event content = record {
-    is_request = refl;
-    method = refl;
-    call_id_is = its;
-    heard = subst (λ name. WasHeard Is2xx calls all name number)
-        (sym (request_named dialog (codes "ACK") number content (branch_of event) event.local))
-        heard;
-  }
+    made_so : (dialog : Dialog) (number : ℕ) → dialog.call_id ≡ call_id
+        → WasHeard Is2xx calls all (name_of_dialog dialog) number → (id : Id) (now : ℕ) → Came id
+        → (content : Content)
+        → IsAckOf (request_in dialog (codes "ACK") number content
+        (branch_of (event_of calls id now)) calls.local)
+    unfolding with_content_of
+    made_so dialog number its heard id now came content =
+        let event = event_of calls id now in record {
+          is_request = refl;
+          method = refl;
+          call_id_is = its;
+          branch = (id, came, agent_branch calls.local (branch_of event) ∙ made_branch event);
+          heard = subst (λ name. WasHeard Is2xx calls all name number)
+              (sym (request_named dialog (codes "ACK") number content (branch_of event) calls.local))
+              heard;
+        }
 
-  -- ---- one input, after others
+    -- ---- one input, after others
 
-  module _ (front rest : List (Timed CallItem)) (call : Call)
-      (held : call_from calls None front ≡ Some call) (differ : EventsDiffer front)
-      (of : AreSidesOf call_id call) where
-    dialog_of : (name : DialogId) (o : Option HeldDialog)
-        → dialog_at name (side_of call).dialogs ≡ o → IfSome o (IsDialogOf call_id)
-    dialog_of name o at =
-        subst (λ o. IfSome o (IsDialogOf call_id)) at
-        (found_one (IsDialogOf call_id) (is_dialog_id name) (side_of call).dialogs
-        (of.state).dialogs)
+    module _ (front rest : List (Timed CallItem)) (call : Call)
+        (held : call_from calls None front ≡ Some call) (differ : EventsDiffer front)
+        (of : AreSidesOf call_id call) where
+      dialog_of : (name : DialogId) (o : Option HeldDialog)
+          → dialog_at name (side_of call).dialogs ≡ o → IfSome o (IsDialogOf call_id)
+      dialog_of name o at =
+          subst (λ o. IfSome o (IsDialogOf call_id)) at
+          (found_one (IsDialogOf call_id) (is_dialog_id name) (side_of call).dialogs
+          (of.state).dialogs)
 
-    owed_pays : all ≡ front ++ rest → PaysIn IsAckOf (side_of call)
-    owed_pays are name dialog at (Prack rseq number) among = tt
-    owed_pays are name dialog at (Ack invite number) among =
-        let owed = owes_as_told calls front differ name dialog
-        (ap (λ o. dialog_at name (side_held o).dialogs) held ∙ at) in
-        let own = same_name name (name_of_dialog dialog.dialog)
-        (named_so calls front differ call held name dialog at) in
-        made_so dialog.dialog number (dialog_of name (Some dialog) at)
-        (subst (λ name. WasHeard Is2xx calls all name number) own
-        (subst (λ inputs. WasHeard Is2xx calls inputs name number) (sym are)
-        (asked_heard Is2xx calls front rest name (Ack invite number) number
-        (λ status client response asks. ack_asked status client response invite number asks)
-        (owed_was_asked calls name front (Ack invite number)
-        (subst (λ pending. Contains pending (Ack invite number)) owed among)))))
+      owed_pays : (id : Id) (now : ℕ) → Came id → all ≡ front ++ rest
+          → PaysIn IsAckOf (event_of calls id now) (side_of call)
+      owed_pays id now came are name dialog at (Prack rseq number) among = tt
+      owed_pays id now came are name dialog at (Ack invite number) among =
+          let owed = owes_as_told calls front differ name dialog
+          (ap (λ o. dialog_at name (side_held o).dialogs) held ∙ at) in
+          let own = same_name name (name_of_dialog dialog.dialog)
+          (named_so calls front differ call held name dialog at) in
+          made_so dialog.dialog number (dialog_of name (Some dialog) at)
+          (subst (λ name. WasHeard Is2xx calls all name number) own
+          (subst (λ inputs. WasHeard Is2xx calls inputs name number) (sym are)
+          (asked_heard Is2xx calls front rest name (Ack invite number) number
+          (λ status client response asks. ack_asked status client response invite number asks)
+          (owed_was_asked calls name front (Ack invite number)
+          (subst (λ pending. Contains pending (Ack invite number)) owed among))))) id now came
 
-    request_of : (id : Id) (client : Client) → lookup (is_id id) call.clients ≡ Some client
-        → IsRequestOf call_id client
-    request_of id client found =
-        subst (λ o. IfSome o (IsRequestOf call_id)) found
-        (found_one (IsRequestOf call_id) (is_id id) call.clients of.clients)
+      request_of : (id : Id) (client : Client) → lookup (is_id id) call.clients ≡ Some client
+          → IsRequestOf call_id client
+      request_of id client found =
+          subst (λ o. IfSome o (IsRequestOf call_id)) found
+          (found_one (IsRequestOf call_id) (is_id id) call.clients of.clients)
 
-    -- whether it is held or made by the response
-    either_of : (reply : Reply) (client : Client) → client.request.call_id ≡ call_id
-        → (o : Option HeldDialog) → dialog_at reply.name (side_of call).dialogs ≡ o
-        → (unwrap_or o (dialog_made_by reply client)).dialog.call_id ≡ call_id
-    either_of reply client its None at = its
-    either_of reply client its (Some dialog) at = dialog_of reply.name (Some dialog) at
+      -- whether it is held or made by the response
+      either_of : (reply : Reply) (client : Client) → client.request.call_id ≡ call_id
+          → (o : Option HeldDialog) → dialog_at reply.name (side_of call).dialogs ≡ o
+          → (unwrap_or o (dialog_made_by reply client)).dialog.call_id ≡ call_id
+      either_of reply client its None at = its
+      either_of reply client its (Some dialog) at = dialog_of reply.name (Some dialog) at
 
-    hears_pays : (id : Id) (now : ℕ) (up : AnUp)
-        → all ≡ front ++ record { moment = now; input = Some (id, Up up) } ∷ rest → (k : UpKind)
-        → up.kind ≡ k → KindPays IsAckOf call (event_of calls id now) up k
-    hears_pays id now up are (kind.Response response) is =
-        λ status status_is client found success has told.
-        let dialogs = (side_of call).dialogs in
-        let reply = reply_for (event_of calls id now) up.id up.call_id response status client in
-        let own = name_so client.kind client response in
-        let there : has_dialog_of client.kind (dialog_at reply.name dialogs) ≡ true =
-        ap (λ name. has_dialog_of client.kind (dialog_at name dialogs)) own
-        ∙ (sym (has_so client.kind client response dialogs) ∙ has) in
-        let name = reply_name client.kind client response in
-        let its = success_of (is_initial client) response reply.name call_id
-        (dialog_at reply.name dialogs) (dialog_made_by reply client)
-        (record {
-          named = dialog_named reply client dialogs (named_so calls front differ call held)
-              own (dialog_at reply.name dialogs) refl there;
-          call_id_is = either_of reply client (request_of up.id client found)
-              (dialog_at reply.name dialogs) refl;
-        }) in
-        let heard : WasHeard Is2xx calls all name client.request.cseq.number = record {
-          before = front;
-          timed = record { moment = now; input = Some (id, Up up) };
-          after = rest;
-          are = are;
-          call = call;
-          held = held;
-          event = id;
-          up = up;
-          comes = refl;
-          response = response;
-          kind_is = is;
-          client = client;
-          client_is = found;
-          name_is = refl;
-          has = sym (has_so client.kind client response dialogs) ∙ has;
-          number_is = refl;
-          status = status;
-          status_is = status_is;
-          is = success;
-          told = ap (λ k. list_any is_response
-              (received call (event_of calls id now) up k).1) is ∙ told;
-        } in
-        made_so (success_dialog reply client dialogs).dialog client.request.cseq.number
-        its.call_id_is
-        (subst (λ name. WasHeard Is2xx calls all name client.request.cseq.number)
-        (sym own ∙ its.named) heard)
-    hears_pays id now up are (kind.Request request reply_to) is = tt
-    hears_pays id now up are (kind.Ack ack) is = tt
-    hears_pays id now up are kind.Timeout is = tt
-    hears_pays id now up are kind.Failed is = tt
+      hears_pays : (id : Id) (now : ℕ) (up : AnUp)
+          → all ≡ front ++ record { moment = now; input = Some (id, Up up) } ∷ rest → (k : UpKind)
+          → up.kind ≡ k → IfSome (event_of_kind id k) Came
+          → KindPays IsAckOf call (event_of calls id now) up k
+      hears_pays id now up are (kind.Response response) is came =
+          λ status status_is client found success has told.
+          let dialogs = (side_of call).dialogs in
+          let reply = reply_for (event_of calls id now) up.id up.call_id response status client in
+          let own = name_so client.kind client response in
+          let there : has_dialog_of client.kind (dialog_at reply.name dialogs) ≡ true =
+          ap (λ name. has_dialog_of client.kind (dialog_at name dialogs)) own
+          ∙ (sym (has_so client.kind client response dialogs) ∙ has) in
+          let name = reply_name client.kind client response in
+          let its = success_of (is_initial client) response reply.name call_id
+          (dialog_at reply.name dialogs) (dialog_made_by reply client)
+          (record {
+            named = dialog_named reply client dialogs (named_so calls front differ call held)
+                own (dialog_at reply.name dialogs) refl there;
+            call_id_is = either_of reply client (request_of up.id client found)
+                (dialog_at reply.name dialogs) refl;
+          }) in
+          let heard : WasHeard Is2xx calls all name client.request.cseq.number = record {
+            before = front;
+            timed = record { moment = now; input = Some (id, Up up) };
+            after = rest;
+            are = are;
+            call = call;
+            held = held;
+            event = id;
+            up = up;
+            comes = refl;
+            response = response;
+            kind_is = is;
+            client = client;
+            client_is = found;
+            name_is = refl;
+            has = sym (has_so client.kind client response dialogs) ∙ has;
+            number_is = refl;
+            status = status;
+            status_is = status_is;
+            is = success;
+            told = ap (λ k. list_any is_response
+                (received call (event_of calls id now) up k).1) is ∙ told;
+          } in
+          made_so (success_dialog reply client dialogs).dialog client.request.cseq.number
+          its.call_id_is
+          (subst (λ name. WasHeard Is2xx calls all name client.request.cseq.number)
+          (sym own ∙ its.named) heard) id now came
+      hears_pays id now up are (kind.Request request reply_to) is came = tt
+      hears_pays id now up are (kind.Ack ack) is came = tt
+      hears_pays id now up are kind.Timeout is came = tt
+      hears_pays id now up are kind.Failed is came = tt
 
-  input_pays : (front rest : List (Timed CallItem)) (state : Option Call)
-      → call_from calls None front ≡ state → (now : ℕ) (input : Option CallItem)
-      → all ≡ front ++ record { moment = now; input = input } ∷ rest → EventsDiffer front
-      → IsCallOf call_id state → InputPays IsAckOf calls state input now
-  input_pays front rest None held now input are differ of = tt
-  input_pays front rest (Some call) held now None are differ of = tt
-  input_pays front rest (Some call) held now (Some (id, Up up)) are differ of =
-      hears_pays front rest call held differ of id now up are up.kind refl
-  input_pays front rest (Some call) held now (Some (id, User command)) are differ of = (
-    owed_pays front (record { moment = now; input = Some (id, User command) } ∷ rest) call held
-        differ of are,
-    named_so calls front differ call held,
-  )
+    input_pays : (front rest : List (Timed CallItem)) (state : Option Call)
+        → call_from calls None front ≡ state → (now : ℕ) (input : Option CallItem)
+        → all ≡ front ++ record { moment = now; input = input } ∷ rest → EventsDiffer front
+        → IsCallOf call_id state → IfSome (event_in input) Came → InputPays IsAckOf calls state input now
+    input_pays front rest None held now input are differ of came = tt
+    input_pays front rest (Some call) held now None are differ of came = tt
+    input_pays front rest (Some call) held now (Some (id, Up up)) are differ of came =
+        hears_pays front rest call held differ of id now up are up.kind refl came
+    input_pays front rest (Some call) held now (Some (id, User command)) are differ of came = (
+      owed_pays front (record { moment = now; input = Some (id, User command) } ∷ rest) call held
+          differ of id now came are,
+      named_so calls front differ call held,
+    )
 
-  -- ---- all inputs
+    -- ---- all inputs
 
-  all_pay : EventsDiffer all → AllByRecursion (λ timed. IsInputOf call_id timed.input) all
-      → AllPay IsAckOf calls all
-  all_pay differ its before timed after are =
-      let state = call_from calls None before in
-      let early = all_of_parts (λ (timed : Timed CallItem). IsInputOf call_id timed.input) before
-      (timed ∷ after)
-      (subst (AllByRecursion (λ (timed : Timed CallItem). IsInputOf call_id timed.input)) are
-      its) in
-      input_pays before after state refl timed.moment timed.input are
-      (front_differ before (timed ∷ after) (subst EventsDiffer are differ))
-      (held_of calls call_id None before early.0 tt)
+    abbrev AllCome : List (Timed CallItem) → Type 0
+    AllCome inputs = AllByRecursion (λ timed. IfSome (event_in timed.input) Came) inputs
 
-  -- each text that the call sends is that of such an ACK, which keeps the rules
-  pub all_acked : (key : List ℕ) → IsAddr calls.local → EventsDiffer all
-      → AllByRecursion (λ timed. IsInputOf call_id timed.input) all
-      → AllByRecursion (λ timed. KeepsInput timed.input) all
-      → AllByRecursion (KeepsRulesWith IsAckOf) (outputs_from (call_machine calls) key None all)
-  all_acked key address differ its keep =
-      call_keeps IsAckOf calls address key all (all_pay differ its) keep
+    all_pay : EventsDiffer all → AllByRecursion (λ timed. IsInputOf call_id timed.input) all
+        → AllCome all → AllPay IsAckOf calls all
+    all_pay differ its come before timed after are =
+        let came = all_of_parts (λ (timed : Timed CallItem). IfSome (event_in timed.input) Came)
+        before (timed ∷ after) (subst AllCome are come) in
+        let state = call_from calls None before in
+        let early = all_of_parts (λ (timed : Timed CallItem). IsInputOf call_id timed.input) before
+        (timed ∷ after)
+        (subst (AllByRecursion (λ (timed : Timed CallItem). IsInputOf call_id timed.input)) are
+        its) in
+        input_pays before after state refl timed.moment timed.input are
+        (front_differ before (timed ∷ after) (subst EventsDiffer are differ))
+        (held_of calls call_id None before early.0 tt) (came.1).0
+
+    -- each text that the call sends is that of such an ACK, which keeps the rules
+    pub all_acked : (key : List ℕ) → IsAddr calls.local → EventsDiffer all
+        → AllByRecursion (λ timed. IsInputOf call_id timed.input) all → AllCome all
+        → AllByRecursion (λ timed. KeepsInput timed.input) all
+        → AllByRecursion (KeepsRulesWith IsAckOf) (outputs_from (call_machine calls) key None all)
+    all_acked key address differ its come keep =
+        call_keeps IsAckOf calls address key all (all_pay differ its come) keep

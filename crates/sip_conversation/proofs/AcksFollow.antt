@@ -26,38 +26,36 @@ use Rattle.sip_clients.specs.declared.client.RequestKind.TheVariants.{InDialog, 
 use Rattle.sip_calls.specs.Call.{CallItem, call_machine, call_step}
 use Rattle.sip_calls.specs.CallShard.{call_cmp}
 use Rattle.sip_calls.specs.Sides.{side_of}
-use Rattle.sip_calls.specs.OwnCall.{IsInputOf}
 use Rattle.sip_calls.specs.declared.calls.Calls.{Calls}
 use Rattle.sip_round.specs.declared.config.Config.{Config}
 use Rattle.sip_round.specs.declared.round.Round.{Round}
 use Rattle.sip_round.specs.Answers.{calls_of}
-use Rattle.sip_round.specs.Laws.{call_inputs_of}
+use Rattle.sip_round.specs.Laws.{call_inputs_of, said_of_call}
+use Rattle.sip_clients.specs.Provisionals.{is_response}
 use Rattle.sip_round.proofs.CallEvents.{events_differ}
 use Rattle.sip_user.specs.declared.item.CallOut.{CallOut}
 use Rattle.sip_user.specs.declared.notice.Notice.TheVariants.{Response}
-use Rattle.sip_calls.specs.Provisionals.{EventsDiffer}
-use Rattle.sip_conversation.proofs.RackedCalls.{front_differ}
 use Rattle.sip_conversation.specs.AckedResponses.{AcksFollowResponses, FollowsSuccess, IsAckOfSuccess}
 use Rattle.sip_conversation.specs.Commands.{CommandsKeepTypes, EventKeepsTypes}
 use Rattle.sip_conversation.specs.Conversation.{Carried, Side, Turn, rounds_of}
 use Rattle.sip_conversation.specs.Messages.{Asks, CallSays, CallsKeepRules}
 use Rattle.sip_conversation.specs.Replies.{AreCounted, ToldResponse}
-use Rattle.sip_conversation.proofs.AckedCalls.{Is2xx, IsAckOf, all_acked}
-use Rattle.sip_conversation.proofs.Among.{all_go, each_of}
+use Rattle.sip_conversation.proofs.AckedCalls.{Is2xx}
+use Rattle.sip_conversation.proofs.Among.{each_of}
 use Rattle.sip_conversation.proofs.CallOuts.{ResponseTells}
-use Rattle.sip_conversation.proofs.CallsKeep.{calls_keep_rules, inputs_keep_so}
+use Rattle.sip_conversation.proofs.CallsKeep.{calls_keep_rules}
 use Rattle.sip_conversation.proofs.Carrying.{TurnHolds}
 use Rattle.sip_conversation.proofs.Fronts.{carried_before, carried_to, keeps_before, keeps_to}
-use Rattle.sip_conversation.proofs.HeardReplies.{WasHeard, has_come, invite_answered, of_up, told_so, longer, of_first}
+use Rattle.sip_conversation.proofs.HeardReplies.{WasHeard, has_come, invite_answered, of_up, told_so, longer, of_first, same_outs}
 use Rattle.sip_conversation.proofs.KeepsRules.{Any, KeepsInput, KeepsRulesWith}
 use Rattle.sip_conversation.proofs.SoundCalls.{IsSoundCall, any_pays, held_sound}
 use Rattle.sip_conversation.proofs.SoundClients.{IsNamedIn, client_found}
 use Rattle.sip_conversation.proofs.OneCallId.{out_replies}
-use Rattle.sip_conversation.proofs.Origins.{TimedComes, inputs_come}
+use Rattle.sip_conversation.proofs.OutsInOrder.{given_up_to, its, told_before, up_to, up_to_is}
 use Rattle.sip_conversation.proofs.RepliesSaid.{IsFair, response_said, told_response}
 use Rattle.sip_conversation.proofs.RequestsAsked.{out_own}
 use Rattle.sip_conversation.proofs.Rounds.{all_of_parts}
-use Rattle.sip_conversation.proofs.Unchanged.{fine_after}
+use Rattle.sip_conversation.proofs.SentAcks.{IsOwnAck, inputs_keep, sent_at}
 
 module _ (configs : Side → Config) (fair : IsFair configs) (before : List Turn) (turn : Turn)
     (carried : Carried configs before) (keep : CallsKeepRules configs before)
@@ -152,17 +150,17 @@ module _ (configs : Side → Config) (fair : IsFair configs) (before : List Turn
         some_same : (one other : ℕ) → Some one ≡ Some other → one ≡ other
         some_same one other same = cc
 
-    -- what the call gives at that input, it gives at its first inputs
-    follows : (first : List (Timed CallItem))
-        → ((out : CallOut)
+    -- what tells of a response at that input is among these outputs
+    follows : (outs : List CallOut)
+        → ((out : CallOut) → is_response out ≡ true
         → Contains (call_step calls (Some was.call) was.timed.input was.timed.moment).1 out
-        → Contains (outputs_from (call_machine calls) call_id None first) out)
-        → FollowsSuccess configs before turn call_id first name number
-    follows first at =
+        → Contains outs out)
+        → FollowsSuccess configs before turn call_id outs name number
+    follows outs at =
         let one = told_so configs fair before turn call_id Is2xx name number was IsTelling tells in
         let notice : CallOut = call_out.Notice
         (Response one.of one.id one.status one.local_tag one.remote_tag one.body) in
-        subst (λ c. FollowsSuccess configs before turn c first name number) one.tells.of_is
+        subst (λ c. FollowsSuccess configs before turn c outs name number) one.tells.of_is
         record {
           id = one.id;
           status = one.status;
@@ -170,8 +168,7 @@ module _ (configs : Side → Config) (fair : IsFair configs) (before : List Turn
           remote_tag = one.remote_tag;
           body = one.body;
           told = one.given;
-          by_then = subst (λ c. Contains (outputs_from (call_machine calls) c None first) notice)
-              (sym one.tells.of_is) (at notice one.among);
+          by_then = at notice refl one.among;
           success = one.tells.success;
           said = one.tells.said;
           cseq = one.tells.cseq;
@@ -180,26 +177,23 @@ module _ (configs : Side → Config) (fair : IsFair configs) (before : List Turn
 
   -- what a call sends as a text is such an ACK
   sent_acked : CommandsKeepTypes (before ++ turn ∷ []) → (call_id : List ℕ)
-      (first later : List (Timed CallItem)) → inputs call_id ≡ first ++ later → (to : Addr)
-      (text : List ℕ)
-      → Contains (outputs_from (call_machine calls) call_id None first) (call_out.Direct to text)
-      → IsAckOfSuccess configs before turn call_id first text
-  sent_acked types call_id first later are to text among =
+      (earlier later : List CallOut) (to : Addr) (text : List ℕ)
+      → said_of_call local_config rounds_now call_id
+      ≡ earlier ++ call_out.Direct to text ∷ later
+      → IsAckOfSuccess configs before turn call_id earlier text
+  sent_acked types call_id earlier later to text same =
+      let out = call_out.Direct to text in
+      let said = sym (same_outs local_config rounds_now (fair.calls turn.side) call_id) ∙ same in
+      let first = up_to calls call_id (inputs call_id) earlier later out said in
+      let rest = (its calls call_id (inputs call_id) earlier later out said).rest in
+      let are = up_to_is calls call_id (inputs call_id) earlier later out said in
       let front = before ++ turn ∷ [] in
-      let Keeps : Timed CallItem → Type 0 = λ timed. KeepsInput timed.input in
-      let Its : Timed CallItem → Type 0 = λ timed. IsInputOf call_id timed.input in
-      let keeps = inputs_keep_so configs fair front
-      (fine_after fair.transactions configs fair.addresses [] front tt carried_so keep_so) types
-      turn.side call_id in
-      let its = all_go {P = TimedComes local_config rounds_now call_id} {Q = Its}
-      (λ timed comes. comes.0) (inputs call_id) (inputs_come local_config rounds_now call_id) in
-      let sent = each_of (KeepsRulesWith (IsAckOf calls call_id first))
-      (outputs_from (call_machine calls) call_id None first) (call_out.Direct to text)
-      (all_acked calls call_id first call_id (fair.addresses turn.side)
-      (front_differ first later
-      (subst EventsDiffer are (events_differ local_config call_id rounds_now)))
-      (all_of_parts Its first later (subst (AllByRecursion Its) are its)).0
-      (all_of_parts Keeps first later (subst (AllByRecursion Keeps) are keeps)).0) among in
+      let keeps = inputs_keep configs fair front carried_so keep_so types turn.side call_id in
+      let sent = each_of
+      (KeepsRulesWith (IsOwnAck configs fair front carried_so keep_so types turn.side call_id first))
+      (outputs_from (call_machine calls) call_id None first) out
+      (sent_at configs fair front carried_so keep_so types turn.side call_id first rest are)
+      (given_up_to calls call_id (inputs call_id) earlier later out said) in
       let ack = sent.0 in
       let so = sent.3 in
       let name = dialog_id_of_tags (tag_of ack.from) (tag_of ack.to) in
@@ -211,9 +205,12 @@ module _ (configs : Side → Config) (fair : IsFair configs) (before : List Turn
         method = so.method;
         call_id_is = so.call_id_is;
         follows = follows call_id name ack.cseq.number
-            (longer Is2xx calls (inputs call_id) first later are name ack.cseq.number so.heard)
-            keeps first (of_first Is2xx calls (inputs call_id) first later are name
-            ack.cseq.number so.heard call_id);
+            (longer Is2xx calls (inputs call_id) first rest are name ack.cseq.number so.heard)
+            keeps earlier
+            (λ told is among. told_before calls call_id (inputs call_id) earlier later out said told
+            refl is
+            (of_first Is2xx calls (inputs call_id) first rest are name ack.cseq.number so.heard
+            call_id told among));
       }
 
 -- what a call asks a transaction to send is no ACK

@@ -1,5 +1,5 @@
 -- A response that an agent says is its user's answer, or its own, to a request that came.
-use Rattle.std.proofs.Common.{◌≡◌, ℕ, true, List, [], refl, sym, ap, ◌∙◌, subst}
+use Rattle.std.proofs.Common.{◌≡◌, ℕ, true, List, [], ◌∷◌, ◌++◌, refl, sym, ap, ◌∙◌, subst}
 use Rattle.std.specs.Prelude.{Contains, IfSome, Option, None, Some, codes}
 use Rattle.std.specs.List.{AllByRecursion}
 use Rattle.std.proofs.lemmas.Option.{same_Some}
@@ -11,7 +11,7 @@ use Rattle.sip_message.specs.Message.{is_request_message}
 use Rattle.sip_message.specs.Response.{response_of}
 use Rattle.sip_message.specs.Written.{written}
 use Rattle.keyed_machine.specs.Laws.{EachKeyAlone}
-use Rattle.keyed_machine.specs.Machine.{given_at, tick_at}
+use Rattle.keyed_machine.specs.Machine.{Timed, given_at, tick_at}
 use Rattle.sip_transactions.specs.declared.input.Command.TheVariants as order
 use Rattle.sip_transactions.specs.declared.input.Input.{Input}
 use Rattle.sip_transactions.specs.declared.input.Input.TheVariants as input
@@ -49,6 +49,7 @@ use Rattle.sip_conversation.specs.Answers.AnswersItself.{Accepts, BadExtension, 
 use Rattle.sip_conversation.specs.Answers.IsAnswered.{ByAgent, ByUser}
 use Rattle.sip_conversation.proofs.ToTags.{answered_to}
 use Rattle.sip_conversation.proofs.AckTexts.{no_ack}
+use Rattle.sip_conversation.proofs.Along.{along, among_after, given_after}
 use Rattle.sip_conversation.proofs.Among.{all_of, each_of}
 use Rattle.sip_conversation.proofs.Bridge.{any_arrival}
 use Rattle.sip_conversation.proofs.CallSays.{AnyAck, AnyCall, InputGives, UserGives, all_say}
@@ -195,38 +196,65 @@ module _ (config : Config) (rounds : List Round) (Came : Message → Type 0) whe
           (Terminates refl cancels.is_invite (cancelled invite cancel came cancels));
     }
 
-    pub user_answers : (respond : Respond) → Responds config rounds call_id respond
+    pub user_answers : (front : List (Timed CallItem)) (now : ℕ) (event : Id)
+        (respond : Respond) (rest : List (Timed CallItem))
+        → call_inputs_of config rounds call_id
+        ≡ front ++ given_at now (event, User (user.Respond respond)) ∷ rest
         → (local : Addr) (held : HeldRequest) → Brought (arrived held) → respond.id ≡ held.id
+        → Contains (given_after (calls_of config) front (given_at now (event, User (user.Respond respond))))
+        (call_out.Command held.id
+        (order.Answer held.key (response_sent local held respond)))
         → AnswersTo (arrived held) (response_sent local held respond)
-    user_answers respond gave local held came named status is = record {
-      is_request = came.is_request;
-      came = came.came;
-      copies = (was_sent local held respond).copies;
-      answered = ByUser record {
-        respond = respond;
-        gave = subst (λ of. Responds config rounds of respond) (sym came.call_id_is) gave;
-        up = came.up;
-        came = came.handed;
-        names = named ∙ sym came.id_is;
-        status_is = same_Some respond.status status
-            (sym (ap status_of (was_sent local held respond).start) ∙ is);
-        body_is = sym (was_sent local held respond).body;
-      };
-    }
+    user_answers front now event respond rest are local held came named sent status is =
+        let outs = given_after (calls_of config) front (given_at now (event, User (user.Respond respond))) in
+        let response = response_sent local held respond in
+        let start = (was_sent local held respond).start in
+        let responds : Responds config rounds call_id respond held.key response = record {
+          earlier = front;
+          now = now;
+          event = event;
+          later = rest;
+          inputs_are = are;
+          sent = subst (λ id. Contains outs (call_out.Command id (order.Answer held.key response)))
+              (sym named) sent;
+        } in
+        record {
+          is_request = came.is_request;
+          came = came.came;
+          copies = (was_sent local held respond).copies;
+          answered = ByUser record {
+            respond = respond;
+            response = response;
+            up = came.up;
+            gave = subst (λ of. Responds config rounds of respond (came.up).key response)
+                (sym came.call_id_is)
+                (subst (λ key. Responds config rounds call_id respond key response)
+                (sym came.key_is) responds);
+            came = came.handed;
+            names = named ∙ sym came.id_is;
+            status_is = same_Some respond.status status (sym (ap status_of start) ∙ is);
+            body_is = sym (was_sent local held respond).body;
+            sent_status = is;
+            sent_body = refl;
+          };
+        }
 
-    command_gives : (now : ℕ) (event : Id) (command : UserCommand)
-        → Contains (call_inputs_of config rounds call_id) (given_at now (event, User command))
-        → UserGives Brought AnswersTo Answers any_answer own command
-    command_gives now event (user.Invite invite) among = tt
-    command_gives now event (user.Plain plain) among = tt
-    command_gives now event (user.Request request) among = tt
-    command_gives now event (user.Respond respond) among =
-        user_answers respond (now, event, among)
-    command_gives now event (user.Ack ack) among = tt
-    command_gives now event (user.Prack prack) among = tt
-    command_gives now event (user.Cancel cancel) among = tt
-    command_gives now event (user.AbandonRequest abandon) among = tt
-    command_gives now event (user.AbandonDialog abandon) among = tt
+    command_gives : (front : List (Timed CallItem)) (now : ℕ) (event : Id)
+        (command : UserCommand) (rest : List (Timed CallItem))
+        → call_inputs_of config rounds call_id
+        ≡ front ++ given_at now (event, User command) ∷ rest
+        → UserGives Brought AnswersTo Answers any_answer own
+        (given_after (calls_of config) front (given_at now (event, User command))) command
+    command_gives front now event (user.Invite invite) rest are = tt
+    command_gives front now event (user.Plain plain) rest are = tt
+    command_gives front now event (user.Request request) rest are = tt
+    command_gives front now event (user.Respond respond) rest are =
+        user_answers front now event respond rest are
+    command_gives front now event (user.Ack ack) rest are = tt
+    command_gives front now event (user.Prack prack) rest are = tt
+    command_gives front now event (user.Cancel cancel) rest are = tt
+    command_gives front now event (user.AbandonRequest abandon) rest are = tt
+    command_gives front now event (user.AbandonDialog abandon) rest are = tt
 
     -- a request that comes up to the call
     pub request_came : (now : ℕ) (event : Id) (made : List ℕ) (up : AnUp) (request : Message)
@@ -260,15 +288,19 @@ module _ (config : Config) (rounds : List Round) (Came : Message → Type 0) whe
     kind_came now event made up kind.Timeout is among came its = tt
     kind_came now event made up kind.Failed is among came its = tt
 
-    input_gives : (now : ℕ) (i : Option CallItem)
-        → Contains (call_inputs_of config rounds call_id) (record { moment = now; input = i })
+    input_gives : (front : List (Timed CallItem)) (now : ℕ) (i : Option CallItem)
+        (rest : List (Timed CallItem))
+        → call_inputs_of config rounds call_id
+        ≡ front ++ record { moment = now; input = i } ∷ rest
         → IfSome i (λ i. ItemCame (UpCame Came) i.1) → IsInputOf call_id i
-        → InputGives Brought AnswersTo Answers any_answer own (calls_of config) i
-    input_gives now None among came its = tt
-    input_gives now (Some (event, Up up)) among came its =
-        kind_came now event (name_of config.seed event 0) up up.kind refl among came its.1
-    input_gives now (Some (event, User command)) among came its =
-        command_gives now event command among
+        → InputGives Brought AnswersTo Answers any_answer own (calls_of config)
+        (given_after (calls_of config) front (record { moment = now; input = i })) i
+    input_gives front now None rest are came its = tt
+    input_gives front now (Some (event, Up up)) rest are came its =
+        kind_came now event (name_of config.seed event 0) up up.kind refl
+        (among_after front (given_at now (event, Up up)) rest are) came its.1
+    input_gives front now (Some (event, User command)) rest are came its =
+        command_gives front now event command rest are
 
   -- each request that came to a call or a transaction is such a request
   pub record AllCame : Type 0 where
@@ -290,12 +322,14 @@ module _ (config : Config) (rounds : List Round) (Came : Message → Type 0) whe
         (sym (call_alone (calls_of config) alone [] (past_of config rounds).calls call_id))
         (all_say (CameTo call_id) AnswersTo Answers any_answer (own call_id) (calls_of config)
         call_id None inputs
-        (all_of (λ timed. InputGives (CameTo call_id) AnswersTo Answers any_answer (own call_id)
-        (calls_of config) timed.input) inputs
-        (λ timed among. input_gives call_id timed.moment timed.input among
+        (along (InputGives (CameTo call_id) AnswersTo Answers any_answer (own call_id)
+        (calls_of config)) (calls_of config) inputs
+        (λ front timed rest are.
+        let among = among_after front timed rest are in
+        input_gives call_id front timed.moment timed.input rest are
         (each_of (TimedCame (UpCame Came)) inputs timed (came.calls call_id) among)
         (each_of (TimedComes config rounds call_id) inputs timed
-        (inputs_come config rounds call_id) among).0)) tt)) said.1
+        (inputs_come config rounds call_id) among).0) [] inputs refl) tt)) said.1
 
     -- a transaction is started with a request
     abbrev StartAsks : Key → Input → Type 0

@@ -214,8 +214,13 @@ module _ (seed call_id : List ℕ) (Came : Id → Type 0) (Cancels : Id → Mess
         let same : other ≡ id = cc in subst (λ i. Cancels i request) same waits
     waiting_asks request Sent id waits is = absurd cc
 
+    not_false : (b : Bool) → not b ≡ false → b ≡ true
+    not_false true is = refl
+    not_false false is = absurd cc
+
     cancel_held : (event : Event) (command : Cancel) (side : Side) (invite : Client)
-        → ComesOf event → Cancels event.id invite.request → OwnRequest invite
+        → ComesOf event → (is_invite_kind invite.kind ≡ true → Cancels event.id invite.request)
+        → OwnRequest invite
         → OwnClients side.clients
         → Taken (cancel_of_request event command side invite)
     cancel_held event command side invite comes asks its own =
@@ -235,18 +240,20 @@ module _ (seed call_id : List ℕ) (Came : Id → Type 0) (Cancels : Id → Mess
         then refuse event command.call_id side AlreadyFinal else asked in
         either Taken (not (is_invite_kind invite.kind))
         (refuse event command.call_id side NoSuchRequest) late (λ is. (own, (tt, tt)))
-        (λ is. either Taken (is_some invite.removal)
+        (λ is. let so = asks (not_false (is_invite_kind invite.kind) is) in
+        either Taken (is_some invite.removal)
         (refuse event command.call_id side AlreadyFinal) asked (λ final. (own, (tt, tt)))
         (λ still. either Taken (is_asked invite.cancel) (side, []) first (λ again. (own, tt))
         (λ none. either (Done seed call_id Came Cancels) invite.provisional started waits
         (λ came. start_own seed call_id Came Cancels (with_cancel Sent, [])
         (cancel_request event.id invite)
-        (put Sent tt, tt) (cancel_own seed call_id Came Cancels event.id invite its asks))
-        (λ none. (put (Waits event.id) asks, tt)))))
+        (put Sent tt, tt) (cancel_own seed call_id Came Cancels event.id invite its so))
+        (λ none. (put (Waits event.id) so, tt)))))
 
     pub cancel_taken : (event : Event) (command : Cancel) (side : Side) → ComesOf event
         → ((invite : Client) → lookup (is_id command.id) side.clients ≡ Some invite
-        → Cancels event.id invite.request) → OwnClients side.clients
+        → is_invite_kind invite.kind ≡ true → Cancels event.id invite.request)
+        → OwnClients side.clients
         → Taken (cancel_command event command side)
     unfolding cancel_command
     cancel_taken event command side comes asks own =

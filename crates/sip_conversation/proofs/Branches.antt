@@ -100,7 +100,7 @@ no_prack same = absurd cc
 no_cancel : codes "CANCEL" ≡ codes "ACK" → ⊥
 no_cancel same = absurd cc
 
-invite_none : codes "INVITE" ≡ codes "CANCEL" → ⊥
+pub invite_none : codes "INVITE" ≡ codes "CANCEL" → ⊥
 invite_none same = false≢true (ap (λ m. bytes_eq m (codes "CANCEL")) same)
 
 prack_none : codes "PRACK" ≡ codes "CANCEL" → ⊥
@@ -136,17 +136,17 @@ like_untagged : {one other : Message} → IsLike one other → has_to_tag other 
 like_untagged like untagged =
     ap (λ (to : Party). not (length (tag_of to) == 0)) like.to ∙ untagged
 
-top_alone : (vias : List Via)
+pub top_alone : (vias : List Via)
     → option_map_or branch_in (slice_get (take 1 vias) 0) []
     ≡ option_map_or branch_in (slice_get vias 0) []
 top_alone [] = refl
 top_alone (via ∷ vias) = refl
 
-made_branch : (event : Event) → branch_of event ≡ codes "z9hG4bK" ++ name_of event.seed event.id 0
+pub made_branch : (event : Event) → branch_of event ≡ codes "z9hG4bK" ++ name_of event.seed event.id 0
 unfolding branch_of
 made_branch event = refl
 
-agent_branch : (local : Addr) (branch : List ℕ) → branch_in (agent_via local branch) ≡ branch
+pub agent_branch : (local : Addr) (branch : List ℕ) → branch_in (agent_via local branch) ≡ branch
 unfolding value_named
 agent_branch local branch = refl
 

@@ -24,6 +24,7 @@ use Rattle.sip_served.proofs.ResponseRules.{respond_same}
 use Rattle.sip_served.proofs.OwnCall.{empty_is}
 use Rattle.sip_served.specs.State.{ServedTaken}
 use Rattle.sip_clients.specs.Rules.Ends.{client_tick}
+use Rattle.sip_clients.specs.Rules.Requests.{is_invite_kind}
 use Rattle.sip_clients.specs.declared.client.Client.{Client}
 use Rattle.sip_clients.specs.declared.event.Event.{Event}
 use Rattle.sip_calls.specs.Call.{CallItem, CallTaken, Taken, call_machine, call_step, call_tick, event_of, item_of_call, kept, made_tag, new_call, received, side_of}
@@ -64,10 +65,11 @@ module _ (calls : Calls) (call_id : List ℕ) (Came : Id → Type 0)
   abbrev pub InputComes : Option CallItem → Type 0
   InputComes input = IsInputOf call_id input × IfSome (event_in input) Came
 
-  -- this is said of each command to cancel: of its event, and of the held request that it names
+  -- this is said of each command to cancel: of its event, and of the held INVITE that it names
   abbrev CommandCancels : Call → Id → UserCommand → Type 0
   CommandCancels call id (user.Cancel cancel) = (invite : Client)
-      → lookup (is_id cancel.id) call.clients ≡ Some invite → Cancels id invite.request
+      → lookup (is_id cancel.id) call.clients ≡ Some invite
+      → is_invite_kind invite.kind ≡ true → Cancels id invite.request
   CommandCancels call id _ = Unit {0}
 
   abbrev pub InputCancels : Option Call → Option CallItem → Type 0
@@ -255,7 +257,7 @@ module _ (calls : Calls) (call_id : List ℕ) (Came : Id → Type 0) where
   any_input (Some call) (Some (id, User (user.Respond respond))) = tt
   any_input (Some call) (Some (id, User (user.Ack ack))) = tt
   any_input (Some call) (Some (id, User (user.Prack prack))) = tt
-  any_input (Some call) (Some (id, User (user.Cancel cancel))) = λ invite found. tt
+  any_input (Some call) (Some (id, User (user.Cancel cancel))) = λ invite found kind. tt
   any_input (Some call) (Some (id, User (user.AbandonRequest abandon))) = tt
   any_input (Some call) (Some (id, User (user.AbandonDialog abandon))) = tt
 

@@ -25,6 +25,7 @@ use Rattle.sip_calls.specs.declared.calls.Calls.{Calls}
 use Rattle.sip_clients.specs.declared.event.Event.{Event}
 use Rattle.sip_clients.specs.Name.{name_of}
 use Rattle.sip_clients.proofs.ClientAsks.{AskAll, OutSays, abandon_dialog_says, abandon_request_says, ack_command_says, cancel_says, clients_tick_says, command_says, invite_says, lost_says, plain_says, prack_command_says, response_says}
+use Rattle.sip_conversation.proofs.Along.{Along}
 use Rattle.sip_conversation.proofs.ServedReplies.{AllowsServed, KindBrought, OwnReplies, RespondGiven, StateGiven, kind_fits, respond_fits, tick_fits}
 
 -- nothing is required of Call-IDs and of ACKs here
@@ -59,23 +60,27 @@ module _ (Brought : Arrival → Type 0) (Given : Arrival → Message → Type 0)
   abbrev CallSays : Call × List CallOut → Type 0
   CallSays taken = CallIs taken.0 × Say taken.1
 
-  -- each answer that a command gives is one
-  abbrev pub UserGives : UserCommand → Type 0
-  UserGives (user.Invite invite) = Unit {0}
-  UserGives (user.Plain plain) = Unit {0}
-  UserGives (user.Request request) = Unit {0}
-  UserGives (user.Respond respond) = RespondGiven Brought Given respond
-  UserGives (user.Ack ack) = Unit {0}
-  UserGives (user.Prack prack) = Unit {0}
-  UserGives (user.Cancel cancel) = Unit {0}
-  UserGives (user.AbandonRequest abandon) = Unit {0}
-  UserGives (user.AbandonDialog abandon) = Unit {0}
+  -- each answer that goes out at a command is one
+  abbrev pub UserGives : List CallOut → UserCommand → Type 0
+  UserGives outs (user.Invite invite) = Unit {0}
+  UserGives outs (user.Plain plain) = Unit {0}
+  UserGives outs (user.Request request) = Unit {0}
+  UserGives outs (user.Respond respond) = RespondGiven Brought Given respond outs
+  UserGives outs (user.Ack ack) = Unit {0}
+  UserGives outs (user.Prack prack) = Unit {0}
+  UserGives outs (user.Cancel cancel) = Unit {0}
+  UserGives outs (user.AbandonRequest abandon) = Unit {0}
+  UserGives outs (user.AbandonDialog abandon) = Unit {0}
 
-  abbrev pub InputGives : Calls → Option CallItem → Type 0
-  InputGives calls None = Unit {0}
-  InputGives calls (Some (event, Up up)) =
+  abbrev pub InputGives : Calls → List CallOut → Option CallItem → Type 0
+  InputGives calls outs None = Unit {0}
+  InputGives calls outs (Some (event, Up up)) =
       KindBrought AnyCall Brought AnyAck (name_of calls.seed event 0) up up.kind
-  InputGives calls (Some (event, User command)) = UserGives command
+  InputGives calls outs (Some (event, User command)) = UserGives outs command
+
+  -- so for each input, from this state on
+  abbrev pub AllGive : Calls → Option Call → List (Timed CallItem) → Type 0
+  AllGive calls = Along (InputGives calls) calls
 
   -- ---- one input
 
@@ -116,8 +121,9 @@ module _ (Brought : Arrival → Type 0) (Given : Arrival → Message → Type 0)
   first_says call event (user.AbandonRequest abandon) is = (is, (tt, tt))
   first_says call event (user.AbandonDialog abandon) is = (is, (tt, tt))
 
-  user_says : (call : Call) (event : Event) (command : UserCommand) → UserGives command
-      → CallIs call → CallSays (command_taken call event command)
+  user_says : (call : Call) (event : Event) (command : UserCommand)
+      → UserGives (command_taken call event command).1 command → CallIs call
+      → CallSays (command_taken call event command)
   user_says call event (user.Invite invite) gives is = (is, (tt, tt))
   user_says call event (user.Plain plain) gives is = (is, (tt, tt))
   user_says call event (user.Request request) gives is =
@@ -170,7 +176,8 @@ module _ (Brought : Arrival → Type 0) (Given : Arrival → Message → Type 0)
   new_is calls = record { served = tt; clients = tt }
 
   taken_says : (calls : Calls) (state : Option Call) (input : Option CallItem) (now : ℕ)
-      → InputGives calls input → HeldIs state → After (step_taken calls state input now)
+      → InputGives calls (step_taken calls state input now).1 input → HeldIs state
+      → After (step_taken calls state input now)
   taken_says calls None None now gives is = (tt, tt)
   taken_says calls (Some call) None now gives is =
       kept_says (ticked call now) (tick_says call now is)
@@ -190,16 +197,19 @@ module _ (Brought : Arrival → Type 0) (Given : Arrival → Message → Type 0)
       (user_says call (event_of calls event now) command gives is)
 
   step_says : (calls : Calls) (state : Option Call) (input : Option CallItem) (now : ℕ)
-      → InputGives calls input → HeldIs state → After (call_step calls state input now)
+      → InputGives calls (call_step calls state input now).1 input → HeldIs state
+      → After (call_step calls state input now)
   step_says calls state input now gives is =
-      subst (λ (taken : Taken). After taken) (sym (same_step calls state input now))
-      (taken_says calls state input now gives is)
+      let same = same_step calls state input now in
+      subst (λ (taken : Taken). After taken) (sym same)
+      (taken_says calls state input now
+      (subst (λ (taken : Taken). InputGives calls taken.1 input) same gives) is)
 
   -- ---- all inputs
 
   pub all_say : (calls : Calls) (call_id : List ℕ) (state : Option Call)
       (inputs : List (Timed CallItem))
-      → AllByRecursion (λ timed. InputGives calls timed.input) inputs → HeldIs state
+      → AllGive calls state inputs → HeldIs state
       → AllByRecursion (OutSays Says) (outputs_from (call_machine calls) call_id state inputs)
   all_say calls call_id state [] gives is = tt
   all_say calls call_id state (timed ∷ inputs) gives is =

@@ -105,16 +105,17 @@ no_prack same = absurd cc
 
 -- ---- ACK, PRACK and CANCEL have commands of their own
 
--- what is said of the body of each PRACK is true of that without one
-module _ (Pracks : List ℕ → Type 0) (empty : Pracks []) where
+-- what is said of each PRACK, by its id and its body, is true of one without a body
+module _ (Pracks : Id → List ℕ → Type 0) (empty : (id : Id) → Pracks id []) where
   record IsOwnKind (client : Client) : Type 0 where
     pub own : has_command client.request.cseq.method ≡ true
-    pub prack : client.request.cseq.method ≡ codes "PRACK" → Pracks client.request.body
+    pub prack : client.request.cseq.method ≡ codes "PRACK"
+        → Pracks client.id client.request.body
 
-  -- of the content with which a pending PRACK goes out
-  abbrev Pays : PendingRequest → Option Content → Type 0
-  Pays (Ack invite cseq) content = Unit {0}
-  Pays (Prack rseq cseq) content = IfSome content (λ c. Pracks c.body)
+  -- of the content with which a pending PRACK goes out under this id
+  abbrev Pays : Id → PendingRequest → Option Content → Type 0
+  Pays id (Ack invite cseq) content = Unit {0}
+  Pays id (Prack rseq cseq) content = IfSome content (λ c. Pracks id c.body)
 
   -- only such requests go out by what is pending in a dialog, or by a response
   record IsPaid (done : PendingOutcome) : Type 0 where
@@ -122,7 +123,7 @@ module _ (Pracks : List ℕ → Type 0) (empty : Pracks []) where
     pub outs : starts done.outs ≡ []
 
   sent_paid : (event : Event) (name : DialogId) (pending : PendingRequest) (content : Content)
-      (held : HeldDialog) → Pays pending (Some content)
+      (held : HeldDialog) → Pays event.id pending (Some content)
       → IsPaid (pending_sent event name pending content held)
   sent_paid event name (Ack invite cseq) content held pays = record { prack = tt; outs = refl }
   sent_paid event name (Prack rseq cseq) content held pays =
@@ -132,7 +133,7 @@ module _ (Pracks : List ℕ → Type 0) (empty : Pracks []) where
         prack = (
           record {
             own = ap has_command (content_method bare content);
-            prack = λ is. subst Pracks (sym (content_body bare content)) pays;
+            prack = λ is. subst (Pracks event.id) (sym (content_body bare content)) pays;
           },
           tt,
         );
@@ -140,27 +141,28 @@ module _ (Pracks : List ℕ → Type 0) (empty : Pracks []) where
       }
 
   outcome_paid : (event : Event) (of : List ℕ) (name : DialogId) (pending : PendingRequest)
-      (content : Option Content) (without_it with_it : HeldDialog) → Pays pending content
+      (content : Option Content) (without_it with_it : HeldDialog) → Pays event.id pending content
       → IsPaid (pending_outcome event of name pending content without_it with_it)
   outcome_paid event of name pending content without_it with_it pays =
       found_or IsPaid (pending_with event of name pending without_it with_it) content _
       (λ one is. found_or IsPaid _
       (first_refusal (refusals_in without_it.dialog (method_of pending)) None) _
       (λ refusal refused. record { prack = tt; outs = refl })
-      (λ none. sent_paid event name pending one without_it (subst (Pays pending) is pays)))
+      (λ none. sent_paid event name pending one without_it (subst (Pays event.id pending) is pays)))
       (λ none. record { prack = tt; outs = refl })
 
   record IsReplied (done : Outcome) : Type 0 where
     pub prack : AllByRecursion IsOwnKind done.prack
     pub outs : starts done.outs ≡ []
 
-  agent_pays : (pending : PendingRequest) → Pays pending (Some (content_of_body []))
-  agent_pays (Ack invite cseq) = tt
-  agent_pays (Prack rseq cseq) = empty
+  agent_pays : (id : Id) (pending : PendingRequest)
+      → Pays id pending (Some (content_of_body []))
+  agent_pays id (Ack invite cseq) = tt
+  agent_pays id (Prack rseq cseq) = empty id
 
-  nothing_pays : (pending : PendingRequest) → Pays pending None
-  nothing_pays (Ack invite cseq) = tt
-  nothing_pays (Prack rseq cseq) = tt
+  nothing_pays : (id : Id) (pending : PendingRequest) → Pays id pending None
+  nothing_pays id (Ack invite cseq) = tt
+  nothing_pays id (Prack rseq cseq) = tt
 
   asks_replied : (pending : PendingRequest) (reply : Reply) (client : Client)
       (after : Option SentAck → Client) (held : HeldDialog) (dialogs : Dialogs)
@@ -169,8 +171,8 @@ module _ (Pracks : List ℕ → Type 0) (empty : Pracks []) where
       let at_once = not (length client.request.body == 0) || (length reply.response.body == 0) in
       let content : Option Content = if at_once then Some (content_of_body []) else None in
       let so = outcome_paid reply.event reply.call_id reply.name pending content held _
-      (either (Pays pending) at_once (Some (content_of_body [])) None (λ is. agent_pays pending)
-      (λ waits. nothing_pays pending)) in
+      (either (Pays reply.event.id pending) at_once (Some (content_of_body [])) None
+      (λ is. agent_pays reply.event.id pending) (λ waits. nothing_pays reply.event.id pending)) in
       record { prack = so.prack; outs = so.outs }
 
   reliable_replied : (reply : Reply) (client : Client) (dialogs : Dialogs) (held : HeldDialog)
@@ -241,14 +243,14 @@ module _ (Pracks : List ℕ → Type 0) (empty : Pracks []) where
       (λ other. record { prack = tt; outs = refl })
       (λ early. dialog_replied reply client dialogs)))))
 
-module _ (Asks : Id → List ℕ → List ℕ → Type 0) (Pracks : List ℕ → Type 0)
-    (empty : Pracks []) where
+module _ (Asks : Id → List ℕ → List ℕ → Type 0) (Pracks : Id → List ℕ → Type 0)
+    (empty : (id : Id) → Pracks id []) where
   -- of a request of another kind this is said, of its method and its body, under this id; and that
-  -- of the body of a PRACK
+  -- of a PRACK
   pub record IsAsked (id : Id) (request : Message) : Type 0 where
     pub asks : has_command request.cseq.method ≡ false
         → Asks id request.cseq.method request.body
-    pub pracks : request.cseq.method ≡ codes "PRACK" → Pracks request.body
+    pub pracks : request.cseq.method ≡ codes "PRACK" → Pracks id request.body
 
   abbrev pub OutAsks : CallOut → Type 0
   OutAsks (out.Notice notice) = Unit {0}
@@ -392,7 +394,7 @@ module _ (Asks : Id → List ℕ → List ℕ → Type 0) (Pracks : List ℕ →
 
   by_user_says : (event : Event) (command : DialogBody) (side : Side) (name : DialogId)
       (held : HeldDialog) (pending : PendingRequest)
-      → Pays Pracks empty pending (Some command.content)
+      → Pays Pracks empty event.id pending (Some command.content)
       → SideSays (pending_by_user event command side name held pending)
   by_user_says event command side name held pending pays =
       let others = filter (λ other. not (is_same_pending pending other)) held.pending_requests in
@@ -407,7 +409,7 @@ module _ (Asks : Id → List ℕ → List ℕ → Type 0) (Pracks : List ℕ →
   pending_says : (method : List ℕ) (nothing : Refusal) (event : Event) (command : DialogBody)
       (side : Side)
       → ((pending : PendingRequest) → bytes_eq (method_of pending) method ≡ true
-      → Pays Pracks empty pending (Some command.content))
+      → Pays Pracks empty event.id pending (Some command.content))
       → SideSays (pending_command method nothing event command side)
   pending_says method nothing event command side pays =
       let name = dialog_id_of_tags (tag_text command.local_tag) (tag_text command.remote_tag) in
@@ -428,18 +430,18 @@ module _ (Asks : Id → List ℕ → List ℕ → Type 0) (Pracks : List ℕ →
       pending_says (codes "ACK") NothingToAck event command side pays
     where
       pays : (pending : PendingRequest) → bytes_eq (method_of pending) (codes "ACK") ≡ true
-          → Pays Pracks empty pending (Some command.content)
+          → Pays Pracks empty event.id pending (Some command.content)
       pays (Ack invite cseq) is = tt
       pays (Prack rseq cseq) is = absurd (false≢true is)
 
   prack_says : (event : Event) (command : DialogBody) (side : Side)
-      → Pracks command.content.body → SideSays (prack_command event command side)
+      → Pracks event.id command.content.body → SideSays (prack_command event command side)
   unfolding prack_command
   prack_says event command side asks =
       pending_says (codes "PRACK") NothingToPrack event command side pays
     where
       pays : (pending : PendingRequest) → bytes_eq (method_of pending) (codes "PRACK") ≡ true
-          → Pays Pracks empty pending (Some command.content)
+          → Pays Pracks empty event.id pending (Some command.content)
       pays (Ack invite cseq) is = tt
       pays (Prack rseq cseq) is = asks
 
@@ -550,7 +552,7 @@ module _ (Asks : Id → List ℕ → List ℕ → Type 0) (Pracks : List ℕ →
 
   -- this is said of the request for which a command asks
   abbrev CommandAsks : Id → UserCommand → Type 0
-  CommandAsks id (user.Prack prack) = Pracks prack.content.body
+  CommandAsks id (user.Prack prack) = Pracks id prack.content.body
   CommandAsks id command = (method body : List ℕ) → request_asked_by command ≡ Some (method, body)
       → Asks id method body
 

@@ -1,6 +1,7 @@
 pub mod Addresses
 pub mod Among
 pub mod AmongInputs
+pub mod Along
 pub mod Answered
 pub mod Before
 pub mod Bridge
@@ -72,6 +73,13 @@ pub mod SoundReplies
 pub mod SoundCalls
 pub mod CallsKeep
 pub mod AckedCalls
+pub mod NoticeFirst
+pub mod OutsInOrder
+pub mod SentAcks
+pub mod RaisedUps
+pub mod CameUps
+pub mod OneOrigin
+pub mod SaidOrigins
 pub mod AcksFollow
 pub mod AcksSaid
 pub mod ServedReplies

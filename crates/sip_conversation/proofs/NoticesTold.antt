@@ -30,6 +30,7 @@ use Rattle.sip_calls.specs.Steps.Call.{command_taken, first_command_taken, step_
 use Rattle.sip_calls.specs.declared.call.Call.{Call}
 use Rattle.sip_calls.specs.declared.calls.Calls.{Calls}
 use Rattle.sip_calls.proofs.SameSteps.{same_step}
+use Rattle.sip_conversation.proofs.Along.{Along}
 use Rattle.sip_conversation.proofs.GivenTold.{OutTells}
 use Rattle.sip_conversation.proofs.ServedReplies.{AllowsServed, IsOther, KindBrought, OwnReplies, RespondGiven, StateGiven, kind_fits, respond_fits, tick_fits}
 
@@ -69,15 +70,19 @@ module _ (Own : List ℕ → Type 0) (Brought : Arrival → Type 0) (AckCame : M
 
   -- ---- one input
 
-  abbrev CommandGives : UserCommand → Type 0
-  CommandGives (user.Respond respond) = RespondGiven Brought Given respond
-  CommandGives _ = Unit {0}
+  abbrev CommandGives : List CallOut → UserCommand → Type 0
+  CommandGives outs (user.Respond respond) = RespondGiven Brought Given respond outs
+  CommandGives outs _ = Unit {0}
 
-  abbrev pub InputTells : Calls → Option CallItem → Type 0
-  InputTells calls None = Unit {0}
-  InputTells calls (Some (event, Up up)) =
+  abbrev pub InputTells : Calls → List CallOut → Option CallItem → Type 0
+  InputTells calls outs None = Unit {0}
+  InputTells calls outs (Some (event, Up up)) =
       KindBrought Own Brought AckCame (name_of calls.seed event 0) up up.kind
-  InputTells calls (Some (event, User command)) = CommandGives command
+  InputTells calls outs (Some (event, User command)) = CommandGives outs command
+
+  -- so for each input, from this state on
+  abbrev pub AllTell : Calls → Option Call → List (Timed CallItem) → Type 0
+  AllTell calls = Along (InputTells calls) calls
 
   up_tells : (call : Call) (event : Event) (up : AnUp) (k : UpKind)
       → KindBrought Own Brought AckCame (made_tag event) up k → Holds call
@@ -112,7 +117,8 @@ module _ (Own : List ℕ → Type 0) (Brought : Arrival → Type 0) (AckCame : M
   first_tells call event (user.AbandonRequest abandon) holds = (holds, (others _ tt, tt))
   first_tells call event (user.AbandonDialog abandon) holds = (holds, (others _ tt, tt))
 
-  command_tells : (call : Call) (event : Event) (command : UserCommand) → CommandGives command
+  command_tells : (call : Call) (event : Event) (command : UserCommand)
+      → CommandGives (command_taken call event command).1 command
       → Holds call → Done (command_taken call event command)
   command_tells call event (user.Invite invite) gives holds = (holds, (others _ tt, tt))
   command_tells call event (user.Plain plain) gives holds = (holds, (others _ tt, tt))
@@ -155,7 +161,8 @@ module _ (Own : List ℕ → Type 0) (Brought : Arrival → Type 0) (AckCame : M
   kept_tells taken done = (kept_by (holds_any taken.0) taken.0 done.0, done.1)
 
   taken_tells : (calls : Calls) (state : Option Call) (input : Option CallItem) (now : ℕ)
-      → InputTells calls input → HoldsHeld state → After (step_taken calls state input now)
+      → InputTells calls (step_taken calls state input now).1 input → HoldsHeld state
+      → After (step_taken calls state input now)
   taken_tells calls None None now tells holds = (tt, tt)
   taken_tells calls (Some call) None now tells holds =
       kept_tells (ticked call now) (ticked_tells call now holds)
@@ -175,16 +182,19 @@ module _ (Own : List ℕ → Type 0) (Brought : Arrival → Type 0) (AckCame : M
       (command_tells call (event_of calls event now) command tells holds)
 
   step_tells : (calls : Calls) (state : Option Call) (input : Option CallItem) (now : ℕ)
-      → InputTells calls input → HoldsHeld state → After (call_step calls state input now)
+      → InputTells calls (call_step calls state input now).1 input → HoldsHeld state
+      → After (call_step calls state input now)
   step_tells calls state input now tells holds =
-      subst (λ (taken : Taken). After taken) (sym (same_step calls state input now))
-      (taken_tells calls state input now tells holds)
+      let same = same_step calls state input now in
+      subst (λ (taken : Taken). After taken) (sym same)
+      (taken_tells calls state input now
+      (subst (λ (taken : Taken). InputTells calls taken.1 input) same tells) holds)
 
   -- ---- all inputs
 
   pub all_tell : (calls : Calls) (call_id : List ℕ) (state : Option Call)
       (inputs : List (Timed CallItem))
-      → AllByRecursion (λ timed. InputTells calls timed.input) inputs → HoldsHeld state
+      → AllTell calls state inputs → HoldsHeld state
       → AllByRecursion (OutTells Tells)
       (outputs_from (call_machine calls) call_id state inputs)
   all_tell calls call_id state [] tell holds = tt

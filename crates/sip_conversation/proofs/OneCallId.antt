@@ -35,7 +35,8 @@ use Rattle.sip_served.specs.declared.arrival.Arrival.{Arrival}
 use Rattle.sip_clients.specs.Name.{hex, name_of, word_of_name}
 use Rattle.sip_clients.proofs.ClientAsks.{OutSays}
 use Rattle.sip_clients.proofs.Names.{names_differ}
-use Rattle.sip_calls.specs.Call.{CallItem, call_machine}
+use Rattle.sip_calls.specs.Call.{CallItem, call_machine, call_step}
+use Rattle.sip_calls.specs.declared.call.Call.{Call}
 use Rattle.sip_calls.specs.CallShard.{call_cmp}
 use Rattle.sip_calls.specs.declared.calls.Calls.{Calls}
 use Rattle.sip_round.specs.declared.config.Config.{Config}
@@ -52,7 +53,7 @@ use Rattle.sip_conversation.proofs.Among.{all_of, each_of}
 use Rattle.sip_conversation.proofs.Branches.{HasBranch, IsStarted}
 use Rattle.sip_conversation.proofs.Bridge.{any_arrival}
 use Rattle.sip_conversation.proofs.CallBranches.{AnyCancel, OutIsOwn, all_own, any_inputs}
-use Rattle.sip_conversation.proofs.CallSays.{AnyAck, AnyCall, InputGives, UserGives, all_say}
+use Rattle.sip_conversation.proofs.CallSays.{AllGive, AnyAck, AnyCall, InputGives, UserGives, all_say}
 use Rattle.sip_conversation.proofs.Longer.{says_longer}
 use Rattle.sip_conversation.proofs.OneStart.{calls_say, one_start, start_id, started_with}
 use Rattle.sip_conversation.proofs.Origins.{IsOrigin, counted, inputs_come, one_call}
@@ -68,7 +69,7 @@ pub record IsOfStart (key : Key) (request : Message) (out : CallOut) : Type 0 wh
 
 -- ---- branches in lower case
 
-abbrev lower : List ℕ → List ℕ
+abbrev pub lower : List ℕ → List ℕ
 lower = str_to_ascii_lowercase
 
 digit_low : (v : ℕ) → to_ascii_lowercase (hex_digit v) ≡ hex_digit v
@@ -96,10 +97,10 @@ name_low seed id index =
     (hex_low 8 word)
 
 -- behind the cookie of each branch stands a name
-same_name : (one other : List ℕ) → codes "z9hg4bk" ++ one ≡ codes "z9hg4bk" ++ other → one ≡ other
+pub same_name : (one other : List ℕ) → codes "z9hg4bk" ++ one ≡ codes "z9hg4bk" ++ other → one ≡ other
 same_name one other same = ap (drop 7) same
 
-branch_low : (seed : List ℕ) (id : Id)
+pub branch_low : (seed : List ℕ) (id : Id)
     → lower (codes "z9hG4bK" ++ name_of seed id 0) ≡ codes "z9hg4bk" ++ name_of seed id 0
 branch_low seed id =
     map-append to_ascii_lowercase (codes "z9hG4bK") (name_of seed id 0)
@@ -130,17 +131,18 @@ own_replies = record {
   terminated = λ invite cancel came cancels. refl;
 }
 
-user_gives : (command : UserCommand) → UserGives Any IsReplyTo IsReply is_reply own_replies command
-user_gives (user.Invite invite) = tt
-user_gives (user.Plain plain) = tt
-user_gives (user.Request request) = tt
-user_gives (user.Respond respond) = λ local held came named.
+user_gives : (outs : List CallOut) (command : UserCommand)
+    → UserGives Any IsReplyTo IsReply is_reply own_replies outs command
+user_gives outs (user.Invite invite) = tt
+user_gives outs (user.Plain plain) = tt
+user_gives outs (user.Request request) = tt
+user_gives outs (user.Respond respond) = λ local held came named goes_out.
     ap is_request_line (was_sent local held respond).start
-user_gives (user.Ack ack) = tt
-user_gives (user.Prack prack) = tt
-user_gives (user.Cancel cancel) = tt
-user_gives (user.AbandonRequest abandon) = tt
-user_gives (user.AbandonDialog abandon) = tt
+user_gives outs (user.Ack ack) = tt
+user_gives outs (user.Prack prack) = tt
+user_gives outs (user.Cancel cancel) = tt
+user_gives outs (user.AbandonRequest abandon) = tt
+user_gives outs (user.AbandonDialog abandon) = tt
 
 kind_gives : (made : List ℕ) (up : AnUp) (k : UpKind)
     → KindBrought AnyCall Any AnyAck made up k
@@ -151,18 +153,18 @@ kind_gives made up kind.Timeout = tt
 kind_gives made up kind.Failed = tt
 
 module _ (calls : Calls) where
-  abbrev Replies : Option CallItem → Type 0
-  Replies = InputGives Any IsReplyTo IsReply is_reply own_replies calls
+  input_gives : (outs : List CallOut) (i : Option CallItem)
+      → InputGives Any IsReplyTo IsReply is_reply own_replies calls outs i
+  input_gives outs None = tt
+  input_gives outs (Some (event, Up up)) = kind_gives (name_of calls.seed event 0) up up.kind
+  input_gives outs (Some (event, User command)) = user_gives outs command
 
-  input_gives : (i : Option CallItem) → Replies i
-  input_gives None = tt
-  input_gives (Some (event, Up up)) = kind_gives (name_of calls.seed event 0) up up.kind
-  input_gives (Some (event, User command)) = user_gives command
-
-  all_give : (inputs : List (Timed CallItem))
-      → AllByRecursion (λ timed. Replies timed.input) inputs
-  all_give [] = tt
-  all_give (timed ∷ inputs) = (input_gives timed.input, all_give inputs)
+  all_give : (state : Option Call) (inputs : List (Timed CallItem))
+      → AllGive Any IsReplyTo IsReply is_reply own_replies calls state inputs
+  all_give state [] = tt
+  all_give state (timed ∷ inputs) =
+      let step = call_step calls state timed.input timed.moment in
+      (input_gives step.1 timed.input, all_give step.0 inputs)
 
 module _ (config : Config)
     (alone : EachKeyAlone call_cmp (call_machine (calls_of config)) tick_at) where
@@ -174,7 +176,7 @@ module _ (config : Config)
       (sym (call_alone (calls_of config) alone [] (past_of config rounds).calls says.0))
       (all_say Any IsReplyTo IsReply is_reply own_replies (calls_of config) says.0 None
       (call_inputs_of config rounds says.0)
-      (all_give (calls_of config) (call_inputs_of config rounds says.0)) tt))
+      (all_give (calls_of config) None (call_inputs_of config rounds says.0)) tt))
       says.1
 
   module _ (early more : List Round) (few : AreCounted config (early ++ more)) where

@@ -24,7 +24,7 @@ use Rattle.sip_user.specs.declared.item.CallOut.{CallOut}
 use Rattle.sip_user.specs.declared.item.CallOut.TheVariants as call_out
 use Rattle.sip_user.specs.declared.notice.Notice.TheVariants as notice
 use Rattle.sip_clients.specs.Clients.{status_of}
-use Rattle.sip_clients.specs.Provisionals.{provisional_number}
+use Rattle.sip_clients.specs.Provisionals.{is_response, provisional_number}
 use Rattle.sip_calls.specs.Call.{CallItem, call_machine, call_step}
 use Rattle.sip_calls.specs.CallShard.{call_cmp}
 use Rattle.sip_calls.specs.declared.calls.Calls.{Calls}
@@ -35,7 +35,6 @@ use Rattle.sip_round.specs.Answers.{calls_of, past_of}
 use Rattle.sip_round.specs.Laws.{call_inputs_of, said_of_call}
 use Rattle.sip_round.proofs.CallEvents.{events_differ}
 use Rattle.sip_calls.specs.Provisionals.{EventsDiffer}
-use Rattle.sip_conversation.specs.AckedResponses.{outs_of}
 use Rattle.sip_conversation.specs.Conversation.{Carried, Side, Turn, given_by, rounds_of}
 use Rattle.sip_conversation.specs.Messages.{CallsKeepRules, IsSaid}
 use Rattle.sip_conversation.specs.Messages.IsSaid.{Acknowledges, Asked, Direct, Trying}
@@ -48,6 +47,7 @@ use Rattle.sip_conversation.proofs.CallBranches.{AnyCancel, OutIsOwn, all_own, a
 use Rattle.sip_conversation.proofs.Fronts.{carried_before, carried_to, keeps_before, keeps_to}
 use Rattle.sip_conversation.proofs.OneCallId.{out_replies}
 use Rattle.sip_conversation.proofs.Origins.{IsOrigin, inputs_come}
+use Rattle.sip_conversation.proofs.OutsInOrder.{given_up_to, its, told_before, up_to, up_to_is}
 use Rattle.sip_conversation.proofs.Provisionals.{IsReliablySo, said_reliably}
 use Rattle.sip_conversation.proofs.HeardReplies.{invite_answered, has_come, of_up, same_outs, told_so, longer, of_first}
 use Rattle.sip_conversation.proofs.RackedCalls.{HasRseq, IsTold, OutIsTold, WasTold, all_told, front_differ}
@@ -175,15 +175,15 @@ module _ (configs : Side → Config) (fair : IsFair configs) (before : List Turn
           from = λ few. reply.request.copies.from ∙ (own few).alike.from;
         }
 
-    -- what the call gives at that input, it gives at its first inputs
-    follows : (first : List (Timed CallItem))
-        → ((out : CallOut) → Contains (call_step (calls_of local_config) (Some was.call)
-        was.timed.input was.timed.moment).1 out
-        → Contains (outs_of configs turn.side call_id first) out)
+    -- what tells of a response at that input is among these outputs
+    follows : (outs : List CallOut)
+        → ((out : CallOut) → is_response out ≡ true → Contains
+        (call_step (calls_of local_config) (Some was.call) was.timed.input was.timed.moment).1 out
+        → Contains outs out)
         → rack.method ≡ codes "INVITE" → Carried configs (before ++ turn ∷ [])
         → CallsKeepRules configs (before ++ turn ∷ [])
-        → FollowsAt configs before turn call_id first name rack
-    follows first at method carried_so keep_so =
+        → FollowsAt configs before turn call_id outs name rack
+    follows outs at method carried_so keep_so =
         let HasIt = HasRseq rack.rseq in
         let one = told_so configs fair before turn call_id HasIt name rack.cseq was
         (IsTelling call_id rack)
@@ -221,9 +221,9 @@ module _ (configs : Side → Config) (fair : IsFair configs) (before : List Turn
             cseq = one.tells.cseq;
             method = method;
           };
-          by_then = subst (λ c. Contains (outs_of configs turn.side call_id first)
+          by_then = subst (λ c. Contains outs
               (call_out.Notice (notice.Response c one.id one.status one.local_tag one.remote_tag
-              one.body))) one.tells.of_is (at out one.among);
+              one.body))) one.tells.of_is (at out refl one.among);
         }
 
   said_follows : Carried configs (before ++ turn ∷ [])
@@ -240,9 +240,10 @@ module _ (configs : Side → Config) (fair : IsFair configs) (before : List Turn
       let so = reported_in local_config rounds_now alone says.0 id key of prack to among rack is in
       let name = dialog_id_of_tags (tag_of prack.from) (tag_of prack.to) in
       let inputs = call_inputs_of local_config rounds_now says.0 in
-      let at = follows says.0 name rack so.1 inputs
-      (of_first (HasRseq rack.rseq) (calls_of local_config) inputs inputs []
-      (sym (append-nil inputs)) name rack.cseq so.1 says.0) so.0 carried_so keep_so in
+      let at = follows says.0 name rack so.1
+      (outputs_from (call_machine (calls_of local_config)) says.0 None inputs)
+      (λ out told among. of_first (HasRseq rack.rseq) (calls_of local_config) inputs inputs []
+      (sym (append-nil inputs)) name rack.cseq so.1 says.0 out among) so.0 carried_so keep_so in
       subst (λ c. FollowsResponse configs before turn c name rack)
       (sym (own_call local_config rounds_now alone says.0 id key of prack to among)) at.response
   said_follows carried_so keep_so prack (Asked id (order.Answer key answer) says same) asks method
@@ -266,26 +267,31 @@ module _ (configs : Side → Config) (fair : IsFair configs) (before : List Turn
       method rack is =
       absurd (no_ack (sym (ap (λ (m : Message). m.cseq.method) same) ∙ method))
 
-  -- at whichever of its inputs a call asks to send it
+  -- whenever a call asks to send it
   asked_follows : Carried configs (before ++ turn ∷ [])
       → CallsKeepRules configs (before ++ turn ∷ []) → (call_id : List ℕ)
-      (first later : List (Timed CallItem))
-      → call_inputs_of local_config rounds_now call_id ≡ first ++ later → (id : Id) (key : Key)
-      (of : List ℕ) (prack : Message) (to : Addr)
-      → Contains (outs_of configs turn.side call_id first)
-      (call_out.Command id (order.Start key of prack to)) → (rack : RAck)
-      → prack.rack ≡ Some rack → FollowsAt configs before turn call_id first
+      (earlier later : List CallOut) (id : Id) (key : Key) (of : List ℕ) (prack : Message)
+      (to : Addr)
+      → said_of_call local_config rounds_now call_id
+      ≡ earlier ++ call_out.Command id (order.Start key of prack to) ∷ later
+      → (rack : RAck) → prack.rack ≡ Some rack → FollowsAt configs before turn call_id earlier
       (dialog_id_of_tags (tag_of prack.from) (tag_of prack.to)) rack
-  asked_follows carried_so keep_so call_id first later are id key of prack to among rack is =
+  asked_follows carried_so keep_so call_id earlier later id key of prack to same rack is =
       let calls = calls_of local_config in
       let inputs = call_inputs_of local_config rounds_now call_id in
-      let so = reported_by local_config rounds_now (fair.calls turn.side) call_id first later are
-      id key of prack to among rack is in
+      let out = call_out.Command id (order.Start key of prack to) in
+      let said = sym (same_so local_config rounds_now (fair.calls turn.side) call_id) ∙ same in
+      let first = up_to calls call_id inputs earlier later out said in
+      let rest = (its calls call_id inputs earlier later out said).rest in
+      let are = up_to_is calls call_id inputs earlier later out said in
+      let so = reported_by local_config rounds_now (fair.calls turn.side) call_id first rest are
+      id key of prack to (given_up_to calls call_id inputs earlier later out said) rack is in
       let name = dialog_id_of_tags (tag_of prack.from) (tag_of prack.to) in
       follows call_id name rack
-      (longer (HasRseq rack.rseq) calls inputs first later are name rack.cseq so.1) first
-      (of_first (HasRseq rack.rseq) calls inputs first later are name rack.cseq so.1 call_id)
-      so.0 carried_so keep_so
+      (longer (HasRseq rack.rseq) calls inputs first rest are name rack.cseq so.1) earlier
+      (λ told tells among. told_before calls call_id inputs earlier later out said told refl tells
+      (of_first (HasRseq rack.rseq) calls inputs first rest are name rack.cseq so.1 call_id told
+      among)) so.0 carried_so keep_so
 
 -- where there is no round nothing is said
 pub no_rounds_say : (config : Config) (prack : Message) → is_request_message prack ≡ true

@@ -1,7 +1,7 @@
 -- A request that an agent says is an ACK, or one for which its user asked; a PRACK may also be the
 -- agent's own, without a body.
-use Rattle.std.proofs.Common.{◌≡◌, ℕ, true, false, List, [], ◌∷◌, ◌++◌, refl, sym, ap, ◌∙◌, subst, append_assoc}
-use Rattle.std.specs.Prelude.{Contains, None, Option, Some, codes}
+use Rattle.std.proofs.Common.{◌≡◌, ◌⊎◌, inl, inr, ⊎_elim, ℕ, true, false, List, [], ◌∷◌, ◌++◌, refl, sym, ap, ◌∙◌, subst, append_assoc}
+use Rattle.std.specs.Prelude.{Contains, IfSome, None, Option, Some, codes}
 use Rattle.std.specs.List.{AllByRecursion}
 use Rattle.std.specs.Map.{lookup}
 use Rattle.std.proofs.lemmas.List.Elements.{Contains-append_right}
@@ -18,14 +18,16 @@ use Rattle.keyed_machine.specs.Laws.{EachKeyAlone}
 use Rattle.keyed_machine.specs.Machine.{Timed, given_at, outputs_from, tick_at}
 use Rattle.sip_transactions.specs.declared.input.Command.TheVariants as order
 use Rattle.sip_user.specs.declared.command.Cancel.{Cancel}
+use Rattle.sip_user.specs.declared.command.DialogBody.{DialogBody}
 use Rattle.sip_user.specs.declared.command.UserCommand.{UserCommand}
 use Rattle.sip_user.specs.declared.command.UserCommand.TheVariants as user
 use Rattle.sip_user.specs.declared.item.CallOut.{CallOut}
 use Rattle.sip_user.specs.declared.item.CallOut.TheVariants as call_out
 use Rattle.sip_user.specs.declared.item.Item.TheVariants.{Up, User}
 use Rattle.sip_held_dialogs.specs.Ids.{is_id}
+use Rattle.sip_held_dialogs.proofs.Each.{found_one}
 use Rattle.sip_clients.specs.Client.{client_at}
-use Rattle.sip_clients.specs.Rules.Requests.{has_command}
+use Rattle.sip_clients.specs.Rules.Requests.{has_command, is_invite_kind}
 use Rattle.sip_clients.specs.declared.client.Client.{Client}
 use Rattle.sip_calls.specs.Call.{CallItem, call_machine}
 use Rattle.sip_calls.specs.CallShard.{call_cmp}
@@ -46,13 +48,15 @@ use Rattle.sip_conversation.specs.ToldPracks.IsPracked.{ByAgent, ByUser}
 use Rattle.sip_conversation.proofs.AckTexts.{is_ack}
 use Rattle.sip_conversation.proofs.Among.{all_of, among_first, each_of}
 use Rattle.sip_conversation.proofs.AmongInputs.{out_of_first_inputs}
-use Rattle.sip_conversation.proofs.CallBranches.{AllCancel, InputCancels, OutIsOwn, all_own}
+use Rattle.sip_conversation.proofs.Branches.{Own}
+use Rattle.sip_conversation.proofs.CallBranches.{AllCancel, AnyCancel, HeldOwn, InputCancels, InputComes, OutIsOwn, all_own, any_inputs, held_own}
 use Rattle.sip_conversation.proofs.ClientsSent.{WentOut, held_went}
 use Rattle.sip_conversation.proofs.CommandAsks.{InputAsks, OutAsks, all_say}
 use Rattle.sip_conversation.proofs.OneCallId.{out_replies}
 use Rattle.sip_conversation.proofs.OneStart.{start_id, started_with}
 use Rattle.sip_conversation.proofs.Origins.{IsOrigin, inputs_come}
 use Rattle.sip_conversation.proofs.PracksOfCalls.{from_more}
+use Rattle.sip_conversation.proofs.Rounds.{all_of_parts}
 
 module _ (config : Config) (rounds : List Round)
     (alone : EachKeyAlone call_cmp (call_machine (calls_of config)) tick_at) where
@@ -64,11 +68,19 @@ module _ (config : Config) (rounds : List Round)
         (given_at now (event, User command))
     pub asks : request_asked_by command ≡ Some (method, body)
 
-  abbrev Pracked : List ℕ → List ℕ → Type 0
-  Pracked call_id = IsPracked config rounds call_id
+  -- the user gave the command Prack with this body, by this event; or there is no body
+  record GavePrack (call_id : List ℕ) (event : Id) (body : List ℕ) : Type 0 where
+    pub now : ℕ
+    pub command : DialogBody
+    pub gave : Contains (call_inputs_of config rounds call_id)
+        (given_at now (event, User (user.Prack command)))
+    pub body_is : command.content.body ≡ body
 
-  empty : (call_id : List ℕ) → Pracked call_id []
-  empty call_id = ByAgent refl
+  abbrev Pracked : List ℕ → Id → List ℕ → Type 0
+  Pracked call_id event body = GavePrack call_id event body ⊎ (body ≡ [])
+
+  empty : (call_id : List ℕ) (event : Id) → Pracked call_id event []
+  empty call_id event = inr refl
 
   module _ (call_id : List ℕ) where
     abbrev OutIsAsked : CallOut → Type 0
@@ -99,7 +111,7 @@ module _ (config : Config) (rounds : List Round)
         asked now event (user.Respond respond) among
     input_asks now (Some (event, User (user.Ack ack))) among = asked now event (user.Ack ack) among
     input_asks now (Some (event, User (user.Prack prack))) among =
-        ByUser record { event = event; now = now; command = prack; gave = among; body_is = refl }
+        inl record { now = now; command = prack; gave = among; body_is = refl }
     input_asks now (Some (event, User (user.Cancel cancel))) among =
         asked now event (user.Cancel cancel) among
     input_asks now (Some (event, User (user.AbandonRequest abandon))) among =
@@ -119,7 +131,7 @@ module _ (config : Config) (rounds : List Round)
       (all_of (λ (timed : Timed CallItem). InputIsAsked call_id timed.input) inputs
       (λ timed among. input_asks call_id timed.moment timed.input among)))) says.1
 
-  -- In this call the user gave the command Cancel, by the event of this id. It names a request by
+  -- In this call the user gave the command Cancel, by the event of this id. It names an INVITE by
   -- the id under which that went out.
   pub record GaveCancel (call_id : List ℕ) (event : Id) (request : Message) : Type 0 where
     pub now : ℕ
@@ -128,6 +140,7 @@ module _ (config : Config) (rounds : List Round)
         (given_at now (event, User (user.Cancel command)))
     pub went : WentOut (outputs_from (call_machine (calls_of config)) call_id None
         (call_inputs_of config rounds call_id)) command.id request
+    pub invites : request.cseq.method ≡ codes "INVITE"
 
   abbrev pub OwnOut : List ℕ → CallOut → Type 0
   OwnOut call_id =
@@ -141,14 +154,33 @@ module _ (config : Config) (rounds : List Round)
     Gave = InputCancels (calls_of config) call_id (IsOrigin config rounds call_id)
         (GaveCancel call_id)
 
+    -- the method of a held INVITE
+    held_invites : (front rest : List (Timed CallItem)) → inputs ≡ front ++ rest → (call : Call)
+        → call_from (calls_of config) None front ≡ Some call → (id : Id) (client : Client)
+        → lookup (is_id id) call.clients ≡ Some client → is_invite_kind client.kind ≡ true
+        → client.request.cseq.method ≡ codes "INVITE"
+    held_invites front rest are call held id client found kind =
+        let calls = calls_of config in
+        let Came : Id → Type 0 = IsOrigin config rounds call_id in
+        let Comes : Timed CallItem → Type 0 =
+        λ timed. InputComes calls call_id Came AnyCancel timed.input in
+        let come = (all_of_parts Comes front rest
+        (subst (AllByRecursion Comes) are (inputs_come config rounds call_id))).0 in
+        let own = subst (HeldOwn calls call_id Came AnyCancel) held
+        (held_own calls call_id Came AnyCancel None front come
+        (any_inputs calls call_id Came None front) tt tt) in
+        let OwnRequest : Client → Type 0 = Own calls.seed call_id Came AnyCancel in
+        (subst (λ o. IfSome o OwnRequest) found
+        (found_one OwnRequest (is_id id) call.clients own)).invites kind
+
     -- a command for a held request names the id under which that went out
     cancel_gave : (front rest : List (Timed CallItem)) (call : Call) (now : ℕ) (event : Id)
         (command : Cancel)
         → inputs ≡ front ++ given_at now (event, User (user.Cancel command)) ∷ rest
         → call_from (calls_of config) None front ≡ Some call → (invite : Client)
         → lookup (is_id command.id) call.clients ≡ Some invite
-        → GaveCancel call_id event invite.request
-    cancel_gave front rest call now event command are held invite found =
+        → is_invite_kind invite.kind ≡ true → GaveCancel call_id event invite.request
+    cancel_gave front rest call now event command are held invite found kind =
         let timed : Timed CallItem = given_at now (event, User (user.Cancel command)) in
         let calls = calls_of config in
         let early = held_went calls call_id front command.id invite
@@ -166,6 +198,7 @@ module _ (config : Config) (rounds : List Round)
             starts = early.starts;
             sends = early.sends;
           };
+          invites = held_invites front (timed ∷ rest) are call held command.id invite found kind;
         }
 
     input_gave : (front rest : List (Timed CallItem)) (state : Option Call)
@@ -236,11 +269,25 @@ module _ (config : Config) (rounds : List Round)
 
   started_pracked : (id : Id) (key : Key) (of : List ℕ) (request : Message) (to : Addr)
       → CallSays config rounds (call_out.Command id (order.Start key of request to))
-      → request.cseq.method ≡ codes "PRACK" → Pracked request.call_id request.body
+      → request.cseq.method ≡ codes "PRACK" → IsPracked config rounds request
   started_pracked id key of request to says is =
       let out = call_out.Command id (order.Start key of request to) in
-      subst (λ call_id. Pracked call_id request.body) (sym (out_own out says).own.call)
-      ((out_asks out says).pracks is)
+      let own = out_own out says in
+      ⊎_elim
+      (λ gave. ByUser record {
+        event = id;
+        now = gave.now;
+        command = gave.command;
+        gave = subst (λ call_id. Contains (call_inputs_of config rounds call_id)
+            (given_at gave.now (id, User (user.Prack gave.command)))) (sym own.own.call)
+            gave.gave;
+        body_is = gave.body_is;
+        key = key;
+        to = to;
+        starts = subst (λ call_id. CallSays config rounds
+            (call_out.Command id (order.Start key call_id request to))) own.of_is says;
+      })
+      (λ none. ByAgent none) ((out_asks out says).pracks is)
 
   no_request : (message : Message) → is_request_message message ≡ true
       → is_request_message message ≡ false → ⊥
@@ -276,9 +323,9 @@ module _ (config : Config) (rounds : List Round)
 
   pub user_pracked : (message : Message) → IsSaid config rounds message → IsMessage message
       → is_request_message message ≡ true → message.cseq.method ≡ codes "PRACK"
-      → Pracked message.call_id message.body
+      → IsPracked config rounds message
   user_pracked message (Asked id (order.Start key of request to) says same) rules is prack =
-      subst (λ (m : Message). Pracked m.call_id m.body) same
+      subst (IsPracked config rounds) same
       (started_pracked id key of request to says
       (ap (λ (m : Message). m.cseq.method) same ∙ prack))
   user_pracked message (Asked id (order.Answer key response) says same) rules is prack =
@@ -340,6 +387,7 @@ module _ (config : Config) (rounds : List Round)
         starts = subst (λ call_id. CallSays config rounds
             (call_out.Command id (order.Start key call_id request to))) own.of_is says;
         invite = cancels.request;
+        is_invite = gave.invites;
         invite_key = sent.key;
         invite_call = sent.of;
         invite_to = sent.to;

@@ -1,6 +1,6 @@
 -- The other side's user asked for each request and each CANCEL that a user is told of, and that
 -- side said each ACK and each PRACK.
-use Rattle.std.proofs.Common.{◌≡◌, ◌≤◌, ◌⊎◌, inl, inr, ℕ, Bool, true, false, ◌&&◌, ◌||◌, List, [], ◌∷◌, ◌++◌, length, refl, sym, ap, ◌∙◌, subst, arith}
+use Rattle.std.proofs.Common.{◌≡◌, ◌⊎◌, inl, inr, ℕ, Bool, true, false, ◌&&◌, ◌||◌, List, [], ◌∷◌, ◌++◌, length, refl, sym, ap, ◌∙◌, subst, arith}
 use Rattle.std.specs.Prelude.{◌==◌, Contains, IfSome, IsTrue, Option, None, Some, codes, is_none, if◌then◌else◌}
 use Rattle.std.specs.Option.{option_map_or}
 use Rattle.std.specs.Str.{bytes_eq, str_eq_ignore_ascii_case, str_to_ascii_lowercase}
@@ -11,15 +11,17 @@ use Rattle.sip_grammar.specs.Tag.{has_good_tag}
 use Rattle.sip_grammar.proofs.Characters.{same_lower}
 use Rattle.sip_message.specs.declared.addr.Addr.{Addr}
 use Rattle.sip_message.specs.declared.id.Id.{Id}
+use Rattle.sip_message.specs.declared.key.Key.{Key}
+use Rattle.sip_message.specs.declared.key.Key.TheVariants as key
 use Rattle.sip_message.specs.declared.message.Message.{Message}
+use Rattle.sip_message.specs.Key.{branch_in}
+use Rattle.sip_message.specs.TopVia.{top_branch}
 use Rattle.sip_message.specs.declared.party.Party.{Party}
 use Rattle.sip_message.specs.declared.rack.RAck.{RAck}
 use Rattle.sip_message.specs.Response.{tagged}
 use Rattle.sip_message.specs.Message.{is_request_message}
 use Rattle.sip_message.specs.Party.{tag_of}
-use Rattle.sip_message.specs.Rules.{IsMessage}
 use Rattle.sip_message.specs.Source.{stamped}
-use Rattle.sip_message.specs.Written.{written}
 use Rattle.keyed_machine.specs.Machine.{Timed, given_at}
 use Rattle.keyed_machine.proofs.Ordered.{by_bool}
 use Rattle.sip_transactions.specs.declared.output.UpKind.{UpKind}
@@ -29,6 +31,7 @@ use Rattle.sip_user.specs.OwnCall.{IsItemOf, IsKindOf, call_of_notice}
 use Rattle.sip_held_dialogs.specs.Requests.{dialog_id_of_tags, is_cancel, is_invite, is_prack, is_success, local_tag_of}
 use Rattle.sip_user.specs.declared.command.UserCommand.{UserCommand}
 use Rattle.sip_user.specs.declared.command.UserCommand.TheVariants as user
+use Rattle.sip_user.specs.declared.item.CallOut.{CallOut}
 use Rattle.sip_user.specs.declared.item.Item.TheVariants.{Up, User}
 use Rattle.sip_user.specs.declared.notice.Notice.{Notice}
 use Rattle.sip_user.specs.declared.notice.Notice.TheVariants as notice
@@ -48,12 +51,20 @@ use Rattle.sip_conversation.specs.Acks.{IsForInvite}
 use Rattle.sip_conversation.specs.Answers.{AnswersItself, IsAnswered, RespondsTo}
 use Rattle.sip_conversation.specs.Answers.AnswersItself.{Accepts, BadExtension, Merged, NoDialog, OutOfOrder, Proceeds, Terminates}
 use Rattle.sip_conversation.specs.Answers.IsAnswered.{ByAgent, ByUser}
-use Rattle.sip_conversation.specs.Cancels.{CancelsToldWereAskedFor, SaidCancel}
+use Rattle.sip_conversation.specs.Cancels.{CancelsToldWereAskedFor, SaidCancel, UserCancelled}
+use Rattle.sip_conversation.specs.Replies.{AreCounted}
 use Rattle.sip_conversation.specs.Conversation.{Carried, Side, Turn, given_by, peer, rounds_of}
-use Rattle.sip_conversation.specs.Messages.{CallsKeepRules, IsSaid, come_from}
+use Rattle.sip_conversation.specs.Messages.{CallsKeepRules, ComesUp, IsSaid, come_from}
 use Rattle.sip_conversation.specs.Requests.{RequestsToldWereAskedFor, SaidRequest}
-use Rattle.sip_conversation.specs.ToldPracks.{IsPracked, PracksToldWereSaid, SaidPrackOf}
-use Rattle.sip_conversation.proofs.Among.{all_of, each_of}
+use Rattle.sip_conversation.specs.ToldPracks.{PracksToldWereSaid, SaidPrackOf}
+use Rattle.sip_conversation.proofs.Along.{along, among_after, given_after}
+use Rattle.sip_conversation.proofs.Among.{each_of}
+use Rattle.sip_transactions.proofs.RowFacts.{and-left}
+use Rattle.sip_conversation.proofs.Branches.{invite_none, top_alone}
+use Rattle.sip_conversation.proofs.CameUps.{request_first}
+use Rattle.sip_conversation.proofs.OneCallId.{lower}
+use Rattle.sip_conversation.proofs.OneOrigin.{one_request, said_starts}
+use Rattle.sip_conversation.proofs.ToldCallId.{came_same as came_branch}
 use Rattle.sip_conversation.proofs.Answered.{AnswersTo, CameTo, own, request_came, user_answers}
 use Rattle.sip_conversation.proofs.Fronts.{carried_to, keeps_to, peer_rounds}
 use Rattle.sip_conversation.proofs.GivenTold.{OutTells, notice_given}
@@ -128,6 +139,16 @@ other_kind request no_ack no_cancel no_prack =
     (λ other. ap (λ b. b || is_cancel request || is_prack request) other
     ∙ (ap (λ b. b || is_prack request) no_cancel ∙ no_prack))
 
+-- ---- the branch of a key
+
+one_branch : (one two : Key) → is_same_branch one two ≡ true → branch_in one ≡ branch_in two
+one_branch (key.Server branch by method) (key.Server other at named) is =
+    (bytes_eq-Decides branch other).0
+    (and-left (bytes_eq branch other) (bytes_eq by.host at.host)
+    (and-left (bytes_eq branch other && bytes_eq by.host at.host) (by.port == at.port) is))
+one_branch (key.Server branch by method) (key.Client other named) is = absurd (false≢true is)
+one_branch (key.Client branch method) other is = absurd (false≢true is)
+
 -- ---- the INVITE of an ACK
 
 five_of : (a b c d e : Bool) → (a && b && c && d && e) ≡ true
@@ -196,16 +217,24 @@ module _ (configs : Side → Config) (fair : IsFair configs) (before : List Turn
   abbrev rounds : List Round
   rounds = rounds_of turn.side front
 
+  -- the ACK came up to the call
+  pub record AckUp (call_id : List ℕ) (ack : Message) : Type 0 where
+    pub up : AnUp
+    pub kind_is : up.kind ≡ kind.Ack ack
+    pub comes : ComesUp here rounds call_id up
+    pub call_is : up.call_id ≡ call_id
+
   -- in these turns the other side said an ACK with this body, for this INVITE
   pub record IsAckSaid (call_id : List ℕ) (id : Id) (body : List ℕ) : Type 0 where
-    pub original : Message
-    pub said : IsSaid (configs other) (rounds_of other before) original
-    pub rules : IsMessage original
-    pub short : length (written original) ≤ 65535
-    pub is_request : is_request_message original ≡ true
-    pub method_is : original.cseq.method ≡ codes "ACK"
-    pub body_is : original.body ≡ body
-    pub invite : IsForInvite here rounds call_id id original
+    pub ack : Message
+    pub asks : is_request_message ack ≡ true
+    pub up : AckUp call_id ack
+    pub came : Came configs front turn.side ack
+    pub said : IsSaid (configs other) (rounds_of other before) came.original
+    pub is_request : is_request_message came.original ≡ true
+    pub method_is : came.original.cseq.method ≡ codes "ACK"
+    pub body_is : came.original.body ≡ body
+    pub invite : IsForInvite here rounds call_id id came.original
 
   -- what a user is told of the requests and the ACKs of the other side
   abbrev Told : Notice → Type 0
@@ -278,11 +307,8 @@ module _ (configs : Side → Config) (fair : IsFair configs) (before : List Turn
           has_rack = same.rack ∙ of.has_rack;
           rseq_is = refl;
           body_is = same.body;
-          by = subst (λ of. IsPracked (configs other) (rounds_of other before) of request.body)
-              call (subst (IsPracked (configs other) (rounds_of other before)
-              comes.original.call_id)
-              same.body (user_pracked (configs other) (rounds_of other before)
-              (fair.calls other) comes.original said comes.rules same.is_request method));
+          by = user_pracked (configs other) (rounds_of other before) (fair.calls other)
+              comes.original said comes.rules same.is_request method;
         }
 
   -- ---- one call
@@ -291,10 +317,6 @@ module _ (configs : Side → Config) (fair : IsFair configs) (before : List Turn
   abbrev CameSo : Message → Type 0
   CameSo message =
       Came configs front turn.side message × (message.cseq.method ≡ codes "ACK" → ⊥)
-
-  abbrev AckCame : Message → Type 0
-  AckCame ack = Came configs front turn.side ack × (ack.cseq.method ≡ codes "ACK")
-      × (is_request_message ack ≡ true)
 
   abbrev Given : Arrival → Message → Type 0
   Given = AnswersTo here rounds CameSo
@@ -305,6 +327,10 @@ module _ (configs : Side → Config) (fair : IsFair configs) (before : List Turn
 
     abbrev Brought : Arrival → Type 0
     Brought = CameTo here rounds CameSo call_id
+
+    abbrev AckCame : Message → Type 0
+    AckCame ack = Came configs front turn.side ack × (ack.cseq.method ≡ codes "ACK")
+        × (is_request_message ack ≡ true) × AckUp call_id ack
 
     -- the 2xx that was given to an INVITE that awaits its ACK
     abbrev Accepted : HeldRequest → Type 0
@@ -378,10 +404,11 @@ module _ (configs : Side → Config) (fair : IsFair configs) (before : List Turn
         let same = came_same (configs other).local ack comes.original comes.same (acks.came).2 in
         let invite = for_invite ack held acks in
         record {
-          original = comes.original;
+          ack = ack;
+          asks = (acks.came).2;
+          up = (acks.came).3;
+          came = comes;
           said = said_before ack comes;
-          rules = comes.rules;
-          short = comes.short;
           is_request = same.is_request;
           method_is = same.method ∙ (acks.came).1;
           body_is = same.body;
@@ -404,6 +431,61 @@ module _ (configs : Side → Config) (fair : IsFair configs) (before : List Turn
 
     -- ---- a CANCEL
 
+    -- it and the INVITE for which it came have one branch
+    branches : (invite cancel : Arrival) → (came : Brought invite)
+        → (cancels : Cancels Brought cancel invite)
+        → lower (top_branch invite.request) ≡ lower (top_branch cancel.request)
+    branches invite cancel came cancels =
+        let brought = cancels.brought in
+        let first : (arrival : Arrival) → (brought : Brought arrival)
+        → branch_in (brought.up).key ≡ lower (top_branch arrival.request) = λ arrival brought.
+        (request_first here rounds fair.transactions (fair.calls turn.side)
+        arrival.request.call_id brought.up (brought.handed).comes arrival.request
+        (brought.handed).reply_to (brought.handed).kind_is).branch in
+        sym (first invite came)
+        ∙ (sym (one_branch (brought.up).key (came.up).key
+        ((λ i. is_same_branch (brought.key_is i) (came.key_is i)) ∙ cancels.branch_is))
+        ∙ first cancel brought)
+
+    -- that INVITE is the one that the other side's user had sent under the id that his command
+    -- names
+    invite_named : (invite cancel : Arrival) → (came : Brought invite)
+        → (cancels : Cancels Brought cancel invite)
+        → (asked : UserCancelled (configs other) (rounds_of other before)
+        (((cancels.brought).came).0).original)
+        → AreCounted (configs other) (rounds_of other before)
+        → invite.request ≡ come_from (configs other).local asked.invite
+    invite_named invite cancel came cancels asked few =
+        let there = configs other in
+        let brought = cancels.brought in
+        let comes = (came.came).0 in
+        let cancel_comes = (brought.came).0 in
+        let alike = came_branch there.local invite.request comes.original comes.same
+        came.is_request in
+        let cancel_alike = came_branch there.local cancel.request cancel_comes.original
+        cancel_comes.same brought.is_request in
+        let inviting : invite.request.cseq.method ≡ codes "INVITE" =
+        (bytes_eq-Decides invite.request.cseq.method (codes "INVITE")).0 cancels.is_invite in
+        let same : comes.original ≡ asked.invite =
+        one_request there (rounds_of other before) (fair.calls other) few comes.original
+        asked.invite
+        (said_starts there (rounds_of other before) (fair.calls other) comes.original
+        (said_before invite.request comes) comes.rules alike.asks
+        (λ ack. (came.came).1 (alike.method ∙ ack)))
+        (record {
+          id = (asked.command).id;
+          key = asked.invite_key;
+          at = asked.invite_call;
+          to = asked.invite_to;
+          says = asked.sent;
+        })
+        (λ is. invite_none (sym inviting ∙ (alike.method ∙ is)))
+        (λ is. invite_none (sym asked.is_invite ∙ is))
+        (ap lower (sym alike.branch) ∙ (branches invite cancel came cancels
+        ∙ (ap lower cancel_alike.branch ∙ (ap (λ m. lower (top_branch m)) asked.cancels
+        ∙ ap lower (top_alone (asked.invite).vias))))) in
+        comes.same ∙ ap (come_from there.local) same
+
     cancel_said : (invite cancel : Arrival) → Brought invite → Cancels Brought cancel invite
         → SaidCancel configs before turn call_id invite.id
     cancel_said invite cancel came cancels =
@@ -413,11 +495,11 @@ module _ (configs : Side → Config) (fair : IsFair configs) (before : List Turn
         brought.is_request in
         let method : comes.original.cseq.method ≡ codes "CANCEL" = same.method
         ∙ (bytes_eq-Decides cancel.request.cseq.method (codes "CANCEL")).0 cancels.is_cancel in
+        let asked = user_cancelled (configs other) (rounds_of other before) (fair.calls other)
+        comes.original (said_before cancel.request comes) comes.rules same.is_request method in
         record {
           original = comes.original;
-          asked = user_cancelled (configs other) (rounds_of other before) (fair.calls other)
-              comes.original (said_before cancel.request comes) comes.rules same.is_request
-              method;
+          asked = asked;
           rules = comes.rules;
           method_is = method;
           call_id_is = same.call_id ∙ brought.call_id_is;
@@ -436,6 +518,7 @@ module _ (configs : Side → Config) (fair : IsFair configs) (before : List Turn
           };
           same = comes.same;
           id_is = came.id_is;
+          invite_is = invite_named invite cancel came cancels asked;
         }
 
     served : AllowsServed IsCall Brought AckCame Given (OutTells Told)
@@ -461,7 +544,7 @@ module _ (configs : Side → Config) (fair : IsFair configs) (before : List Turn
     abbrev inputs : List (Timed CallItem)
     inputs = call_inputs_of here rounds call_id
 
-    abbrev Tells : Option CallItem → Type 0
+    abbrev Tells : List CallOut → Option CallItem → Type 0
     Tells = InputTells IsCall Brought AckCame Given (own here rounds CameSo call_id) Told served
         others (λ call_id id status local_tag remote_tag body. tt) (calls_of here)
 
@@ -475,49 +558,64 @@ module _ (configs : Side → Config) (fair : IsFair configs) (before : List Turn
           reply_to is among (came.0, no_ack) came.1
           (subst (IsKindOf call_id) is its.1),
     )
-    kind_said now event up (kind.Ack ack) is among came method its =
-        (its.0, (came, method.0, method.1))
+    kind_said now event up (kind.Ack ack) is among came method its = (
+      its.0,
+      (
+        came,
+        method.0,
+        method.1,
+        record { up = up; kind_is = is; comes = (now, event, among); call_is = its.0 },
+      ),
+    )
     kind_said now event up (kind.Response response) is among came method its = tt
     kind_said now event up kind.Timeout is among came method its = tt
     kind_said now event up kind.Failed is among came method its = tt
 
-    command_said : (now : ℕ) (event : Id) (command : UserCommand)
-        → Contains inputs (given_at now (event, User command))
-        → Tells (Some (event, User command))
-    command_said now event (user.Invite invite) among = tt
-    command_said now event (user.Plain plain) among = tt
-    command_said now event (user.Request request) among = tt
-    command_said now event (user.Respond respond) among =
-        user_answers here rounds CameSo call_id respond (now, event, among)
-    command_said now event (user.Ack ack) among = tt
-    command_said now event (user.Prack prack) among = tt
-    command_said now event (user.Cancel cancel) among = tt
-    command_said now event (user.AbandonRequest abandon) among = tt
-    command_said now event (user.AbandonDialog abandon) among = tt
+    command_said : (earlier : List (Timed CallItem)) (now : ℕ) (event : Id)
+        (command : UserCommand) (later : List (Timed CallItem))
+        → inputs ≡ earlier ++ given_at now (event, User command) ∷ later
+        → Tells (given_after (calls_of here) earlier (given_at now (event, User command)))
+        (Some (event, User command))
+    command_said earlier now event (user.Invite invite) later are = tt
+    command_said earlier now event (user.Plain plain) later are = tt
+    command_said earlier now event (user.Request request) later are = tt
+    command_said earlier now event (user.Respond respond) later are =
+        user_answers here rounds CameSo call_id earlier now event respond later are
+    command_said earlier now event (user.Ack ack) later are = tt
+    command_said earlier now event (user.Prack prack) later are = tt
+    command_said earlier now event (user.Cancel cancel) later are = tt
+    command_said earlier now event (user.AbandonRequest abandon) later are = tt
+    command_said earlier now event (user.AbandonDialog abandon) later are = tt
 
-    input_said : (now : ℕ) (input : Option CallItem)
-        → Contains inputs (record { moment = now; input = input })
-        → InputHeard configs front turn.side call_id input → Tells input
-    input_said now None among heard = tt
-    input_said now (Some (event, Up up)) among heard =
-        kind_said now event up up.kind refl among heard.came heard.method heard.own
-    input_said now (Some (event, User command)) among heard =
-        command_said now event command among
+    input_said : (earlier : List (Timed CallItem)) (now : ℕ) (input : Option CallItem)
+        (later : List (Timed CallItem))
+        → inputs ≡ earlier ++ record { moment = now; input = input } ∷ later
+        → InputHeard configs front turn.side call_id input
+        → Tells (given_after (calls_of here) earlier (record { moment = now; input = input }))
+        input
+    input_said earlier now None later are heard = tt
+    input_said earlier now (Some (event, Up up)) later are heard =
+        kind_said now event up up.kind refl
+        (among_after earlier (given_at now (event, Up up)) later are) heard.came heard.method
+        heard.own
+    input_said earlier now (Some (event, User command)) later are heard =
+        command_said earlier now event command later are
 
   notice_said : Carried configs front → CallsKeepRules configs front → (told : Notice)
       → Contains (given_by configs front turn.side) (output.Notice told) → Told told
   notice_said carried keep told among =
       let call_id = call_of_notice told in
       notice_given Told here rounds (fair.calls turn.side) told
-      (all_tell (IsCall call_id) (Brought call_id) AckCame Given
+      (all_tell (IsCall call_id) (Brought call_id) (AckCame call_id) Given
       (own here rounds CameSo call_id) Told (served call_id) others
       (λ call_id id status local_tag remote_tag body. tt) (calls_of here) call_id None
       (inputs call_id)
-      (all_of (λ timed. Tells call_id timed.input) (inputs call_id)
-      (λ timed has. input_said call_id timed.moment timed.input has
+      (along (Tells call_id) (calls_of here) (inputs call_id)
+      (λ earlier timed later are. input_said call_id earlier timed.moment timed.input later are
       (each_of (λ timed. InputHeard configs front turn.side call_id timed.input)
       (inputs call_id) timed
-      (all_heard configs front turn.side fair carried keep call_id) has))) tt) among
+      (all_heard configs front turn.side fair carried keep call_id)
+      (among_after earlier timed later are))) [] (inputs call_id) refl) tt) among
 
 -- ---- in the turns before
 

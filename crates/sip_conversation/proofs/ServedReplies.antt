@@ -3,7 +3,7 @@
 -- there is a reason. The user is told of an ACK or a CANCEL only for an INVITE that came up.
 use mathlib.Core.List.{reverse-cons}
 use Rattle.std.proofs.Common.{◌≡◌, ℕ, Bool, true, false, ◌&&◌, ◌||◌, ◌==◌, not, List, [], ◌∷◌, ◌++◌, map, refl, sym, ap, subst}
-use Rattle.std.specs.Prelude.{IfSome, Option, None, Some, codes, filter, find, is_none, nat_le, reverse, if◌then◌else◌}
+use Rattle.std.specs.Prelude.{Contains, IfSome, Option, None, Some, codes, filter, find, is_none, nat_le, reverse, if◌then◌else◌}
 use Rattle.std.specs.List.{AllByRecursion, flat_map, join_by, list_any}
 use Rattle.std.specs.Map.{values_of}
 use Rattle.std.specs.Option.{option_map_or}
@@ -33,7 +33,7 @@ use Rattle.sip_user.specs.declared.notice.Notice.{Notice}
 use Rattle.sip_user.specs.declared.notice.Notice.TheVariants as notice
 use Rattle.sip_served.specs.Arrival.{arrival_of}
 use Rattle.sip_served.specs.Rules.Arrivals.{ack_for, ack_received, after_487, after_ack, after_prack, after_request, awaits, bad_extension, cancel_for, cancel_received, is_above, is_merged, is_named_by, is_same_branch, no_such_call, own_response, prack_for, prack_received, request_for_user, request_in_dialog, request_received, server_received}
-use Rattle.sip_served.specs.Rules.Responses.{dialogs_after, held_after, makes_dialog, is_sent_reliably, respond_command, respond_to, response_refusal, response_sent, success_sent}
+use Rattle.sip_served.specs.Rules.Responses.{dialogs_after, held_after, makes_dialog, is_sent_reliably, refuse, respond_command, respond_to, response_refusal, response_sent, success_sent}
 use Rattle.sip_served.specs.Rules.Ticks.{provisionals_tick, server_tick, success_at, success_tick}
 use Rattle.sip_served.specs.Respond.{respond_taken}
 use Rattle.sip_served.specs.State.{ServedTaken, State, changed_at, has_id}
@@ -49,6 +49,8 @@ use Rattle.sip_served.proofs.Found.{found_id}
 use Rattle.sip_served.proofs.ResponseRules.{respond_same}
 use Rattle.sip_served.proofs.TickRules.{tick_same}
 use Rattle.sip_clients.specs.Clients.{status_of}
+use Rattle.sip_user.specs.declared.refusal.Refusal.TheVariants.{NoSuchRequest}
+use Rattle.sip_conversation.proofs.Among.{among_first}
 use Rattle.sip_conversation.proofs.Branches.{either, found_or}
 use Rattle.sip_conversation.proofs.PracksCame.{arrived, equal, was_sent}
 use Rattle.sip_conversation.proofs.PracksServed.{found_so}
@@ -164,10 +166,14 @@ module _ (Brought : Arrival → Type 0) (Given : Arrival → Message → Type 0)
     pub terminated : (invite cancel : Arrival) → Brought invite → Cancels Brought cancel invite
         → Given invite (response_of invite.request 487 (codes "Request Terminated") invite.tag)
 
-  -- each answer by this command is one that was given to the request of its id
-  abbrev pub RespondGiven : Respond → Type 0
-  RespondGiven respond = (local : Addr) (held : HeldRequest) → Brought (arrived held)
-      → respond.id ≡ held.id → Given (arrived held) (response_sent local held respond)
+  -- each answer by this command that is among what goes out is one that was given to the request
+  -- of its id
+  abbrev pub RespondGiven : Respond → List CallOut → Type 0
+  RespondGiven respond outs = (local : Addr) (held : HeldRequest) → Brought (arrived held)
+      → respond.id ≡ held.id
+      → Contains outs
+      (out.Command held.id (order.Answer held.key (response_sent local held respond)))
+      → Given (arrived held) (response_sent local held respond)
 
   -- a 2xx was given to this request
   pub record IsSuccessTo (invite : Arrival) (response : Message) : Type 0 where
@@ -555,14 +561,23 @@ module _ (Own : List ℕ → Type 0) (Brought : Arrival → Type 0) (AckCame : M
         (λ none. tt)))
 
     answer_done : (state : State) (event : Id) (respond : Respond) (now : ℕ) (held : HeldRequest)
-        → RespondGiven Brought Given respond → respond.id ≡ held.id → Held held → Holds state
+        → RespondGiven Brought Given respond (respond_to state event respond now held).1
+        → respond.id ≡ held.id → Held held → Holds state
         → Done (respond_to state event respond now held)
     answer_done state event respond now held here named keeps all =
         let response = response_sent state.local held respond in
-        let answer = here state.local held keeps.came named in
-        found_or Done _ (response_refusal state.dialogs held respond) _
+        let sent : CallOut = out.Command held.id (order.Answer held.key response) in
+        let dialogs = dialogs_after event held respond.status response state.dialogs in
+        let requests = changed_at respond.id
+        (λ _. held_after event held respond response now) state.requests in
+        let done : ServedTaken =
+        (record state { requests = requests; dialogs = dialogs.0 }, sent ∷ dialogs.1) in
+        found_or Done _ (response_refusal state.dialogs held respond) done
         (λ refusal refused. (all, (allows.told _ tt, tt)))
-        (λ none. (
+        (λ none.
+        let answer = here state.local held keeps.came named
+        (subst (λ o. Contains (option_map_or (refuse state event respond) o done).1 sent)
+        (sym none) (among_first sent dialogs.1)) in (
           changed_given Brought Given respond.id (λ _. held_after event held respond response now)
               (λ other before. answer_keeps Brought Given event held respond response now answer
               (ap status_of (was_sent state.local held respond).start)
@@ -574,23 +589,29 @@ module _ (Own : List ℕ → Type 0) (Brought : Arrival → Type 0) (AckCame : M
         ))
 
     respond_done : (state : State) (event : Id) (respond : Respond) (now : ℕ)
-        → RespondGiven Brought Given respond → Holds state
-        → Done (respond_command state event respond now)
+        → RespondGiven Brought Given respond (respond_command state event respond now).1
+        → Holds state → Done (respond_command state event respond now)
     unfolding respond_command
     respond_done state event respond now here all =
+        let none = refuse state event respond NoSuchRequest in
         found_or Done (respond_to state event respond now)
-        (find (has_id respond.id) state.requests) _
-        (λ held one. answer_done state event respond now held here
+        (find (has_id respond.id) state.requests) none
+        (λ held one. answer_done state event respond now held
+        (subst (λ o. RespondGiven Brought Given respond
+        (option_map_or (respond_to state event respond now) o none).1) one here)
         (sym (same_id held.id respond.id (found_id respond.id state.requests held one)))
         (found Held (has_id respond.id) state.requests held all one) all)
         (λ none. (all, (allows.told _ tt, tt)))
 
     pub respond_fits : (state : State) (event : Id) (respond : Respond) (now : ℕ)
-        → RespondGiven Brought Given respond → Holds state
-        → Done (respond_taken state event respond now)
+        → RespondGiven Brought Given respond (respond_taken state event respond now).1
+        → Holds state → Done (respond_taken state event respond now)
     respond_fits state event respond now here all =
-        subst Done (respond_same state event respond now)
-        (respond_done state event respond now here all)
+        let same = respond_same state event respond now in
+        subst Done same
+        (respond_done state event respond now
+        (subst (λ (taken : ServedTaken). RespondGiven Brought Given respond taken.1) (sym same)
+        here) all)
 
     -- ---- a tick
 

@@ -138,7 +138,7 @@ module _ (AckIs : Message → Type 0) where
   first_done call event (user.AbandonDialog abandon) address types sound = (sound, (tt, tt))
 
   command_done : (call : Call) (event : Event) (command : UserCommand) → IsAddr event.local
-      → KeepsTypes command → PaysIn AckIs (side_of call) → AreNamed (side_of call).dialogs
+      → KeepsTypes command → PaysIn AckIs event (side_of call) → AreNamed (side_of call).dialogs
       → IsSoundCall call
       → Done (item_of_call true call event (User command))
   command_done call event (user.Invite invite) address types pays named sound = (sound, (tt, tt))
@@ -191,7 +191,7 @@ module _ (AckIs : Message → Type 0) where
   InputPays calls (Some call) (Some (id, Up up)) now =
       KindPays call (event_of calls id now) up up.kind
   InputPays calls (Some call) (Some (id, User command)) now =
-      PaysIn AckIs (side_of call) × AreNamed (side_of call).dialogs
+      PaysIn AckIs (event_of calls id now) (side_of call) × AreNamed (side_of call).dialogs
   InputPays calls (Some call) None now = Unit {0}
   InputPays calls None input now = Unit {0}
 
@@ -302,13 +302,14 @@ module _ (AckIs : Message → Type 0) where
 
 -- ---- where nothing more is said
 
-any_pending : (dialog : Dialog) (pending : PendingRequest) → Pays Any dialog pending
-any_pending dialog (Ack invite number) = λ event content. tt
-any_pending dialog (Prack rseq number) = tt
+any_pending : (event : Event) (dialog : Dialog) (pending : PendingRequest)
+    → Pays Any event dialog pending
+any_pending event dialog (Ack invite number) = λ content. tt
+any_pending event dialog (Prack rseq number) = tt
 
 any_kind : (call : Call) (event : Event) (up : AnUp) (k : UpKind) → KindPays Any call event up k
 any_kind call event up (kind.Response response) =
-    λ status is client found success has told event content. tt
+    λ status is client found success has told content. tt
 any_kind call event up (kind.Request request reply_to) = tt
 any_kind call event up (kind.Ack ack) = tt
 any_kind call event up kind.Timeout = tt
@@ -320,7 +321,7 @@ any_input : (calls : Calls) (front : List (Timed CallItem)) → EventsDiffer fro
 any_input calls front differ (Some call) held (Some (id, Up up)) now =
     any_kind call (event_of calls id now) up up.kind
 any_input calls front differ (Some call) held (Some (id, User command)) now = (
-  λ name held at pending among. any_pending held.dialog pending,
+  λ name held at pending among. any_pending (event_of calls id now) held.dialog pending,
   named_so calls front differ call held,
 )
 any_input calls front differ (Some call) held None now = tt

@@ -163,17 +163,17 @@ module _ (AckIs : Message → Type 0) where
 
   -- ---- in a dialog
 
-  -- so is each ACK that may be made in this dialog for what is pending
-  abbrev pub Pays : Dialog → PendingRequest → Type 0
-  Pays dialog (Ack invite number) = (event : Event) (content : Content)
+  -- so is each ACK that an event may make in this dialog for what is pending
+  abbrev pub Pays : Event → Dialog → PendingRequest → Type 0
+  Pays event dialog (Ack invite number) = (content : Content)
       → AckIs (request_in dialog (codes "ACK") number content (branch_of event) event.local)
-  Pays dialog (Prack rseq number) = Unit {0}
+  Pays event dialog (Prack rseq number) = Unit {0}
 
-  -- so is each that may be made for what is pending in a held dialog
-  abbrev pub PaysIn : Side → Type 0
-  PaysIn side = (name : DialogId) (held : HeldDialog)
+  -- so is each that it may make for what is pending in a held dialog
+  abbrev pub PaysIn : Event → Side → Type 0
+  PaysIn event side = (name : DialogId) (held : HeldDialog)
       → lookup (is_dialog_id name) side.dialogs ≡ Some held → (pending : PendingRequest)
-      → Contains held.pending_requests pending → Pays held.dialog pending
+      → Contains held.pending_requests pending → Pays event held.dialog pending
 
   pub record IsPaid (done : PendingOutcome) : Type 0 where
     pub dialog : IsSound done.dialog
@@ -209,7 +209,7 @@ module _ (AckIs : Message → Type 0) where
     }
 
     sent_paid : (name : DialogId) (pending : PendingRequest) (content : Content)
-        (held : HeldDialog) → IsSound held → IsSoundPending pending → Pays held.dialog pending
+        (held : HeldDialog) → IsSound held → IsSoundPending pending → Pays event held.dialog pending
         → IsContent content
         → first_refusal (refusals_in held.dialog (method_of pending)) None ≡ None
         → IsPaid (pending_sent event name pending content held)
@@ -220,9 +220,9 @@ module _ (AckIs : Message → Type 0) where
         (codes "ACK") number content ack_token fits types in
         record {
           dialog = sound;
-          ack = (message, refl, rules, pays event content);
+          ack = (message, refl, rules, pays content);
           prack = tt;
-          outs = ((message, refl, rules, pays event content), tt);
+          outs = ((message, refl, rules, pays content), tt);
         }
     sent_paid name (Prack rseq number) content held sound fits pays types none =
         let rack : RAck = record { rseq = rseq; cseq = number; method = codes "INVITE" } in
@@ -242,7 +242,7 @@ module _ (AckIs : Message → Type 0) where
 
     pub outcome_paid : (call_id : List ℕ) (name : DialogId) (pending : PendingRequest)
         (content : Option Content) (without_it with_it : HeldDialog) → IsSound without_it
-        → IsSound with_it → IsSoundPending pending → Pays without_it.dialog pending
+        → IsSound with_it → IsSoundPending pending → Pays event without_it.dialog pending
         → IfSome content IsContent
         → IsPaid (pending_outcome event call_id name pending content without_it with_it)
     outcome_paid call_id name pending content without_it with_it sound with_sound fits pays
@@ -313,7 +313,7 @@ module _ (AckIs : Message → Type 0) where
 
     pending_user : (command : DialogBody) (side : Side) (name : DialogId) (held : HeldDialog)
         (pending : PendingRequest) → IsContent command.content → IsSoundPending pending
-        → Pays held.dialog pending → IsSound held → IsSoundSide side
+        → Pays event held.dialog pending → IsSound held → IsSoundSide side
         → Taken (pending_by_user event command side name held pending)
     pending_user command side name held pending types fits pays sound sides =
         let others = filter (λ other. not (is_same_pending pending other)) held.pending_requests in
@@ -338,7 +338,7 @@ module _ (AckIs : Message → Type 0) where
         )
 
     pending_done : (method : List ℕ) (nothing : Refusal) (command : DialogBody) (side : Side)
-        → IsContent command.content → PaysIn side → IsSoundSide side
+        → IsContent command.content → PaysIn event side → IsSoundSide side
         → Taken (pending_command method nothing event command side)
     pending_done method nothing command side types pays sides =
         let name = dialog_id_of_tags (tag_text command.local_tag) (tag_text command.remote_tag) in
@@ -357,13 +357,13 @@ module _ (AckIs : Message → Type 0) where
         (λ none. (sides, (tt, tt)))
 
     pub ack_done : (command : DialogBody) (side : Side) → IsContent command.content
-        → PaysIn side → IsSoundSide side → Taken (ack_command event command side)
+        → PaysIn event side → IsSoundSide side → Taken (ack_command event command side)
     unfolding ack_command
     ack_done command side types pays sides =
         pending_done (codes "ACK") NothingToAck command side types pays sides
 
     pub prack_done : (command : DialogBody) (side : Side) → IsContent command.content
-        → PaysIn side → IsSoundSide side → Taken (prack_command event command side)
+        → PaysIn event side → IsSoundSide side → Taken (prack_command event command side)
     unfolding prack_command
     prack_done command side types pays sides =
         pending_done (codes "PRACK") NothingToPrack command side types pays sides

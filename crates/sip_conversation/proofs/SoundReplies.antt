@@ -117,7 +117,7 @@ module _ (AckIs : Message → Type 0) where
   abbrev pub Hears : Type 0 → Reply → Client → Dialogs → Type 0
   Hears Told reply client dialogs = is_success reply.status ≡ true
       → has_dialog client dialogs ≡ true → Told
-      → Pays AckIs (success_dialog reply client dialogs).dialog
+      → Pays AckIs reply.event (success_dialog reply client dialogs).dialog
       (Ack client.id client.request.cseq.number)
 
   record IsReplied (done : Outcome) : Type 0 where
@@ -133,7 +133,7 @@ module _ (AckIs : Message → Type 0) where
 
   asks_done : (pending : PendingRequest) (reply : Reply) (client : Client)
       (after : Option SentAck → Client) (held : HeldDialog) (dialogs : Dialogs)
-      → IsSoundReply reply → IsSoundPending pending → Pays AckIs held.dialog pending
+      → IsSoundReply reply → IsSoundPending pending → Pays AckIs reply.event held.dialog pending
       → ((ack : Option SentAck) → IsKept AckIs ack → IsSoundClient AckIs (after ack)) → IsSound held
       → AreSound dialogs → IsReplied (asks_for pending reply client after held dialogs)
   asks_done pending reply client after held dialogs comes fits pays keeps sound all =
@@ -197,7 +197,7 @@ module _ (AckIs : Message → Type 0) where
 
   first_done : (reply : Reply) (client : Client) (dialogs : Dialogs) → IsSoundReply reply
       → IsSoundClient AckIs client → AreSound dialogs
-      → Pays AckIs (success_dialog reply client dialogs).dialog
+      → Pays AckIs reply.event (success_dialog reply client dialogs).dialog
       (Ack client.id client.request.cseq.number)
       → IsReplied (first_success reply client dialogs)
   first_done reply client dialogs comes its all pays =

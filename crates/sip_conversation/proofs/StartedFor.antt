@@ -56,7 +56,7 @@ response_key response status is =
     client_parts response.start (top_branch response) (top_host response) (top_port response)
     response.cseq.method status is
 
-abbrev Any : Message → Type 0
+abbrev pub Any : Message → Type 0
 Any message = Unit {0}
 
 module _ (config : Config) (rounds : List Round) where
@@ -76,7 +76,7 @@ module _ (config : Config) (rounds : List Round) where
   out_fits (call_out.Command id (order.Abandon key)) = tt
   out_fits (call_out.Direct to bytes) = tt
 
-  has_key : (key : Key) (id : Id) (message : Message) (reply_to : Addr)
+  pub has_key : (key : Key) (id : Id) (message : Message) (reply_to : Addr)
       → IsGiven config rounds key (input.Receive id message reply_to)
       → key_of_message message ≡ key
   has_key key id message reply_to given =
@@ -103,10 +103,10 @@ module _ (config : Config) (rounds : List Round) where
   abbrev pub UpStarted : AnUp → Type 0
   UpStarted up = KindStarted up.id up.call_id up.kind
 
-  abbrev HasKey : Key → Message → Type 0
+  abbrev pub HasKey : Key → Message → Type 0
   HasKey key message = key_of_message message ≡ key
 
-  faithful_keys : (key : Key) → AllByRecursion (IsFaithful Any (HasKey key))
+  pub faithful_keys : (key : Key) → AllByRecursion (IsFaithful Any (HasKey key))
       (outputs_from transaction_machine key None (inputs_of config rounds key))
   faithful_keys key =
       faithful (inputs_of config rounds key) Any (HasKey key) (record {

@@ -43,7 +43,7 @@ stamp_branch : (source : Addr) (vias : List Via)
 stamp_branch source [] = refl
 stamp_branch source (via ∷ vias) = stamp_leaves source (via ∷ vias) via refl
 
-record IsSame (came said : Message) : Type 0 where
+pub record IsSame (came said : Message) : Type 0 where
   pub asks : is_request_message said ≡ true
   pub branch : top_branch came ≡ top_branch said
   pub method : came.cseq.method ≡ said.cseq.method
@@ -59,7 +59,7 @@ stamped_same source said asks = record {
   call = refl;
 }
 
-came_same : (source : Addr) (came said : Message) → came ≡ come_from source said
+pub came_same : (source : Addr) (came said : Message) → came ≡ come_from source said
     → is_request_message came ≡ true → IsSame came said
 came_same source came said same asks =
     let comes : Bool → Message = λ b. if b then stamped said source else said in

@@ -14,19 +14,22 @@ use Rattle.sip_message.specs.Written.{written}
 use Rattle.sip_transactions.specs.declared.input.Input.TheVariants.{Receive, Start}
 use Rattle.sip_transactions.specs.declared.output.Up.{Up}
 use Rattle.sip_held_dialogs.specs.Requests.{dialog_id_of_tags, is_invite, is_success}
+use Rattle.sip_user.specs.declared.item.CallOut.{CallOut}
 use Rattle.sip_user.specs.declared.item.CallOut.TheVariants.{Direct}
 use Rattle.sip_user.specs.declared.notice.Notice.TheVariants.{Ack}
-use Rattle.sip_round.specs.Laws.{call_inputs_of}
+use Rattle.sip_round.specs.Laws.{said_of_call}
 use Rattle.sip_round.specs.declared.config.Config.{Config}
 use Rattle.sip_round.specs.declared.output.Output.TheVariants.{Notice}
 use Rattle.sip_round.specs.declared.round.Round.{Round}
 use Rattle.sip_conversation.specs.AckedResponses.{FollowsSuccess}
 use Rattle.sip_conversation.specs.Answers.{IsHandedUp, IsResponseTo, RespondsTo}
 use Rattle.sip_conversation.specs.Conversation.{Side, Turn, given_by, peer, rounds_of}
-use Rattle.sip_conversation.specs.Messages.{CallSays, IsFailure, IsGiven, IsSaid}
+use Rattle.sip_conversation.specs.Messages.{IsFailure, IsGiven, IsSaid}
+use Rattle.sip_conversation.specs.Replies.{AreCounted}
 
--- Up to the end of one of these turns, which is this side's, a call of it sent the ACK as a text,
--- and its user was told of the 2xx that the ACK acknowledges (RFC 3261, section 13.2.2.4).
+-- Up to the end of one of these turns, which is this side's, the call of the ACK's Call-ID sent the
+-- ACK as a text. Before that it told its user of the 2xx that the ACK acknowledges (RFC 3261,
+-- section 13.2.2.4).
 pub record IsSentByCall (configs : Side → Config) (turns : List Turn) (side : Side) (ack : Message)
     : Type 0 where
   pub before : List Turn
@@ -34,11 +37,12 @@ pub record IsSentByCall (configs : Side → Config) (turns : List Turn) (side : 
   pub after : List Turn
   pub turns_are : turns ≡ before ++ turn ∷ after
   pub side_is : turn.side ≡ side
+  pub earlier : List CallOut
   pub to : Addr
-  pub sent : CallSays (configs turn.side) (rounds_of turn.side (before ++ turn ∷ []))
-      (Direct to (written ack))
-  pub follows : FollowsSuccess configs before turn ack.call_id
-      (call_inputs_of (configs turn.side) (rounds_of turn.side (before ++ turn ∷ [])) ack.call_id)
+  pub later : List CallOut
+  pub sent : said_of_call (configs turn.side) (rounds_of turn.side (before ++ turn ∷ []))
+      ack.call_id ≡ earlier ++ Direct to (written ack) ∷ later
+  pub follows : FollowsSuccess configs before turn ack.call_id earlier
       (dialog_id_of_tags (tag_of ack.from) (tag_of ack.to)) ack.cseq.number
 
 -- In these rounds a transaction made the ACK for a request that it was to start and a response of
@@ -79,8 +83,9 @@ pub record IsForInvite (config : Config) (rounds : List Round) (call_id : List �
       ≡ dialog_id_of_tags (tag_of response.to) (tag_of response.from)
 
 -- In the turns before the other side said an ACK with this body. A call sent it for a 2xx, or a
--- transaction made it for a response of 300 to 699. It is for the INVITE that came up to this side
--- under this Call-ID and this id up to the turn's end.
+-- transaction made it for a response of 300 to 699. It has this Call-ID, if the rounds of the other
+-- side are counted. It is for the INVITE that came up to this side under this Call-ID and this id
+-- up to the turn's end.
 pub record SaidAck (configs : Side → Config) (before : List Turn) (turn : Turn)
     (call_id : List ℕ) (id : Id) (body : List ℕ) : Type 0 where
   pub original : Message
@@ -89,6 +94,8 @@ pub record SaidAck (configs : Side → Config) (before : List Turn) (turn : Turn
   pub is_request : is_request_message original ≡ true
   pub method_is : original.cseq.method ≡ codes "ACK"
   pub body_is : original.body ≡ body
+  pub call_id_is : AreCounted (configs (peer turn.side)) (rounds_of (peer turn.side) before)
+      → original.call_id ≡ call_id
   pub by : IsSentByCall configs before (peer turn.side) original
       ⊎ IsMadeByTransaction (configs (peer turn.side)) (rounds_of (peer turn.side) before)
       original

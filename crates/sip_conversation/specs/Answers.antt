@@ -1,19 +1,26 @@
 -- How a request of the peer is answered: by the user, whose command names that request, or by the
 -- agent itself.
-use Rattle.std.specs.Prelude.{◌≡◌, ◌||◌, ℕ, true, false, List, [], Contains}
+use Rattle.std.specs.Prelude.{◌≡◌, ◌||◌, ℕ, true, false, List, [], ◌∷◌, ◌++◌, Contains, None, Some}
 use Rattle.std.specs.List.{list_any}
 use Rattle.sip_message.specs.declared.addr.Addr.{Addr}
 use Rattle.sip_message.specs.declared.id.Id.{Id}
+use Rattle.sip_message.specs.declared.key.Key.{Key}
 use Rattle.sip_message.specs.declared.message.Message.{Message}
 use Rattle.sip_message.specs.Message.{is_request_message}
-use Rattle.keyed_machine.specs.Machine.{given_at}
+use Rattle.keyed_machine.specs.Machine.{Timed, given_at}
+use Rattle.sip_transactions.specs.declared.input.Command.TheVariants.{Answer}
 use Rattle.sip_transactions.specs.declared.output.Up.{Up}
 use Rattle.sip_transactions.specs.declared.output.UpKind.TheVariants.{Request}
 use Rattle.sip_held_dialogs.specs.Requests.{has_to_tag, is_bye, is_cancel, is_invite, is_prack, is_unknown_option}
 use Rattle.sip_user.specs.declared.command.Respond.{Respond}
 use Rattle.sip_user.specs.declared.command.UserCommand.TheVariants as user
+use Rattle.sip_user.specs.declared.item.CallOut.TheVariants.{Command}
 use Rattle.sip_user.specs.declared.item.Item.TheVariants.{User}
 use Rattle.sip_served.specs.Rules.Arrivals.{is_same_branch}
+use Rattle.sip_clients.specs.Clients.{status_of}
+use Rattle.sip_calls.specs.Call.{CallItem, call_step}
+use Rattle.sip_calls.specs.Histories.{call_from}
+use Rattle.sip_round.specs.Answers.{calls_of}
 use Rattle.sip_round.specs.declared.config.Config.{Config}
 use Rattle.sip_round.specs.declared.round.Round.{Round}
 use Rattle.sip_round.specs.Laws.{call_inputs_of}
@@ -28,22 +35,35 @@ module _ (config : Config) (rounds : List Round) where
 
   -- ---- by the user
 
-  -- in these rounds the user gave the call this command to respond
-  abbrev pub Responds : List ℕ → Respond → Type 0
-  Responds call_id respond = (now : ℕ) × (event : Id)
-      × Contains (call_inputs_of config rounds call_id)
-      (given_at now (event, User (user.Respond respond)))
+  -- In these rounds the user gave the call this command to respond, at one of its inputs. At that
+  -- input the call asked the transaction of this key to send this response: the command wasn't
+  -- refused.
+  pub record Responds (call_id : List ℕ) (respond : Respond) (key : Key) (response : Message)
+      : Type 0 where
+    pub earlier : List (Timed CallItem)
+    pub now : ℕ
+    pub event : Id
+    pub later : List (Timed CallItem)
+    pub inputs_are : call_inputs_of config rounds call_id
+        ≡ earlier ++ given_at now (event, User (user.Respond respond)) ∷ later
+    pub sent : Contains (call_step (calls_of config) (call_from (calls_of config) None earlier)
+        (Some (event, User (user.Respond respond))) now).1
+        (Command respond.id (Answer key response))
 
   -- In these rounds the user answered this request with this status and this body: he gave its call
-  -- a command to respond with them, which names the request by the id under which it came up.
+  -- a command to respond with them, which names the request by the id under which it came up. At
+  -- once the call asked the transaction of the request to send such a response.
   pub record RespondsTo (request : Message) (status : ℕ) (body : List ℕ) : Type 0 where
     pub respond : Respond
-    pub gave : Responds request.call_id respond
     pub up : Up
+    pub response : Message
+    pub gave : Responds request.call_id respond up.key response
     pub came : IsHandedUp request up
     pub names : respond.id ≡ up.id
     pub status_is : respond.status ≡ status
     pub body_is : respond.content.body ≡ body
+    pub sent_status : status_of response.start ≡ Some status
+    pub sent_body : response.body ≡ body
 
   -- ---- by the agent itself
 

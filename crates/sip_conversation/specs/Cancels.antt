@@ -22,10 +22,11 @@ use Rattle.sip_round.specs.Laws.{call_inputs_of}
 use Rattle.sip_conversation.specs.Answers.{IsCancelled}
 use Rattle.sip_conversation.specs.Conversation.{Side, Turn, given_by, peer, rounds_of}
 use Rattle.sip_conversation.specs.Messages.{CallSays, come_from}
+use Rattle.sip_conversation.specs.Replies.{AreCounted}
 
 -- In these rounds the user asked for this CANCEL: an event was his command Cancel in its call. It
--- names a request by the id under which that was sent. Under the id of the event a transaction was
--- to start with the CANCEL, which is that of this request (RFC 3261, section 9.1).
+-- names an INVITE by the id under which that was sent. Under the id of the event a transaction was
+-- to start with the CANCEL, which is that of this INVITE (RFC 3261, section 9.1).
 pub record UserCancelled (config : Config) (rounds : List Round) (cancel : Message) : Type 0 where
   pub event : Id
   pub now : ℕ
@@ -36,6 +37,7 @@ pub record UserCancelled (config : Config) (rounds : List Round) (cancel : Messa
   pub to : Addr
   pub starts : CallSays config rounds (Command event (Start key cancel.call_id cancel to))
   pub invite : Message
+  pub is_invite : invite.cseq.method ≡ codes "INVITE"
   pub invite_key : Key
   pub invite_call : List ℕ
   pub invite_to : Addr
@@ -45,7 +47,9 @@ pub record UserCancelled (config : Config) (rounds : List Round) (cancel : Messa
 
 -- In the turns before, the other side said a CANCEL of this Call-ID, because its user asked for it.
 -- It came up to this side for an INVITE that came up under this Call-ID and this id up to the
--- turn's end: their transactions have one branch and one sent-by (section 9.2).
+-- turn's end: their transactions have one branch and one sent-by (section 9.2). If the rounds of the
+-- other side are counted, that is the INVITE that its user's command names, with the stamp of its
+-- source.
 pub record SaidCancel (configs : Side → Config) (before : List Turn) (turn : Turn)
     (call_id : List ℕ) (id : Id) : Type 0 where
   pub original : Message
@@ -58,6 +62,8 @@ pub record SaidCancel (configs : Side → Config) (before : List Turn) (turn : T
   pub cancelled : IsCancelled (configs turn.side) (rounds_of turn.side (before ++ turn ∷ [])) invite
   pub same : cancelled.cancel ≡ come_from (configs (peer turn.side)).local original
   pub id_is : cancelled.up.id ≡ id
+  pub invite_is : AreCounted (configs (peer turn.side)) (rounds_of (peer turn.side) before)
+      → invite ≡ come_from (configs (peer turn.side)).local asked.invite
 
 -- so is each CANCEL that the user of a turn's side is told of, up to the turn's end
 abbrev pub CancelsToldWereAskedFor : (Side → Config) → List Turn → Type 0

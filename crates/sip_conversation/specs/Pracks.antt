@@ -18,11 +18,8 @@ use Rattle.sip_round.specs.declared.config.Config.{Config}
 use Rattle.sip_round.specs.declared.output.Output.TheVariants.{Notice}
 use Rattle.sip_message.specs.declared.addr.Addr.{Addr}
 use Rattle.sip_message.specs.declared.key.Key.{Key}
-use Rattle.keyed_machine.specs.Machine.{Timed}
 use Rattle.sip_transactions.specs.declared.input.Command.TheVariants.{Start}
-use Rattle.sip_calls.specs.Call.{CallItem}
-use Rattle.sip_round.specs.Laws.{call_inputs_of}
-use Rattle.sip_conversation.specs.AckedResponses.{outs_of}
+use Rattle.sip_round.specs.Laws.{said_of_call}
 use Rattle.sip_conversation.specs.Conversation.{Side, Turn, given_by, rounds_of}
 use Rattle.sip_conversation.specs.Messages.{IsSaid}
 use Rattle.sip_conversation.specs.Provisionals.{SaidReliably, told_reliably}
@@ -52,17 +49,17 @@ pub record FollowsResponse (configs : Side → Config) (before : List Turn) (tur
       → said.response.original.cseq.number ≡ rack.cseq
   pub method : rack.method ≡ codes "INVITE"
 
--- it does, and his call gave him that notice at one of these inputs
+-- it does, and that notice is among these outputs of his call
 pub record FollowsAt (configs : Side → Config) (before : List Turn) (turn : Turn)
-    (call_id : List ℕ) (inputs : List (Timed CallItem)) (dialog : DialogId) (rack : RAck) : Type 0
+    (call_id : List ℕ) (outs : List CallOut) (dialog : DialogId) (rack : RAck) : Type 0
   where
     pub response : FollowsResponse configs before turn call_id dialog rack
-    pub by_then : Contains (outs_of configs turn.side call_id inputs)
+    pub by_then : Contains outs
         (call_out.Notice (Response call_id response.id response.status response.local_tag
         response.remote_tag response.body))
 
--- So does each PRACK that a turn's side said up to the turn's end, in the dialog of its tags. At
--- whichever of its inputs a call asks to send one, the user is told at that input or before it.
+-- So does each PRACK that a turn's side said up to the turn's end, in the dialog of its tags.
+-- Whenever a call asks to send one, the user is told by an output of the call that stands before.
 pub record PracksFollow (configs : Side → Config) (before : List Turn) (turn : Turn) : Type 0 where
   pub said : (prack : Message)
       → IsSaid (configs turn.side) (rounds_of turn.side (before ++ turn ∷ [])) prack
@@ -70,13 +67,12 @@ pub record PracksFollow (configs : Side → Config) (before : List Turn) (turn :
       → (rack : RAck) → prack.rack ≡ Some rack
       → FollowsResponse configs before turn prack.call_id
       (dialog_id_of_tags (tag_of prack.from) (tag_of prack.to)) rack
-  pub asked : (call_id : List ℕ) (inputs later : List (Timed CallItem))
-      → call_inputs_of (configs turn.side) (rounds_of turn.side (before ++ turn ∷ [])) call_id
-      ≡ inputs ++ later
-      → (id : Id) (key : Key) (of : List ℕ) (prack : Message) (to : Addr)
-      → Contains (outs_of configs turn.side call_id inputs)
-      (call_out.Command id (Start key of prack to)) → (rack : RAck) → prack.rack ≡ Some rack
-      → FollowsAt configs before turn call_id inputs (dialog_id_of_tags (tag_of prack.from)
+  pub asked : (call_id : List ℕ) (earlier later : List CallOut) (id : Id) (key : Key)
+      (of : List ℕ) (prack : Message) (to : Addr)
+      → said_of_call (configs turn.side) (rounds_of turn.side (before ++ turn ∷ [])) call_id
+      ≡ earlier ++ call_out.Command id (Start key of prack to) ∷ later
+      → (rack : RAck) → prack.rack ≡ Some rack
+      → FollowsAt configs before turn call_id earlier (dialog_id_of_tags (tag_of prack.from)
       (tag_of prack.to)) rack
 
 -- in every turn

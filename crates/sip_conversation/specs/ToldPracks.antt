@@ -1,13 +1,17 @@
 -- A PRACK that a user is told of is one that the other side said before.
 use Rattle.std.specs.Prelude.{◌≡◌, ℕ, true, List, [], ◌∷◌, ◌++◌, Contains, Some, codes}
+use Rattle.sip_message.specs.declared.addr.Addr.{Addr}
 use Rattle.sip_message.specs.declared.id.Id.{Id}
+use Rattle.sip_message.specs.declared.key.Key.{Key}
 use Rattle.sip_message.specs.declared.message.Message.{Message}
 use Rattle.sip_message.specs.declared.rack.RAck.{RAck}
 use Rattle.sip_message.specs.Message.{is_request_message}
 use Rattle.sip_message.specs.Rules.{IsMessage}
 use Rattle.keyed_machine.specs.Machine.{given_at}
+use Rattle.sip_transactions.specs.declared.input.Command.TheVariants.{Start}
 use Rattle.sip_user.specs.declared.command.DialogBody.{DialogBody}
 use Rattle.sip_user.specs.declared.command.UserCommand.TheVariants as user
+use Rattle.sip_user.specs.declared.item.CallOut.TheVariants.{Command}
 use Rattle.sip_user.specs.declared.item.Item.TheVariants.{User}
 use Rattle.sip_user.specs.declared.notice.Notice.TheVariants.{Prack}
 use Rattle.sip_round.specs.declared.config.Config.{Config}
@@ -15,22 +19,25 @@ use Rattle.sip_round.specs.declared.output.Output.TheVariants.{Notice}
 use Rattle.sip_round.specs.declared.round.Round.{Round}
 use Rattle.sip_round.specs.Laws.{call_inputs_of}
 use Rattle.sip_conversation.specs.Conversation.{Side, Turn, given_by, peer, rounds_of}
-use Rattle.sip_conversation.specs.Messages.{IsSaid}
+use Rattle.sip_conversation.specs.Messages.{CallSays, IsSaid}
 
--- in these rounds the user gave the command Prack under this Call-ID, with this body
-pub record UserPracked (config : Config) (rounds : List Round) (call_id body : List ℕ) : Type 0
-  where
-    pub event : Id
-    pub now : ℕ
-    pub command : DialogBody
-    pub gave : Contains (call_inputs_of config rounds call_id)
-        (given_at now (event, User (user.Prack command)))
-    pub body_is : command.content.body ≡ body
+-- In these rounds the user asked for this PRACK: an event was his command Prack under its Call-ID,
+-- with its body. Under the id of that event a transaction was to start with the PRACK.
+pub record UserPracked (config : Config) (rounds : List Round) (prack : Message) : Type 0 where
+  pub event : Id
+  pub now : ℕ
+  pub command : DialogBody
+  pub gave : Contains (call_inputs_of config rounds prack.call_id)
+      (given_at now (event, User (user.Prack command)))
+  pub body_is : command.content.body ≡ prack.body
+  pub key : Key
+  pub to : Addr
+  pub starts : CallSays config rounds (Command event (Start key prack.call_id prack to))
 
--- a PRACK with this body is the user's, or the agent's own, without a body
-pub data IsPracked (config : Config) (rounds : List Round) (call_id body : List ℕ) : Type 0 where
-  ByUser : UserPracked config rounds call_id body → IsPracked config rounds call_id body
-  ByAgent : body ≡ [] → IsPracked config rounds call_id body
+-- a PRACK is the user's, or the agent's own, without a body
+pub data IsPracked (config : Config) (rounds : List Round) (prack : Message) : Type 0 where
+  ByUser : UserPracked config rounds prack → IsPracked config rounds prack
+  ByAgent : prack.body ≡ [] → IsPracked config rounds prack
 
 -- In these turns the other side said a PRACK with this Call-ID and this body, and with this RSeq in
 -- RAck (RFC 3262, section 7.2): its user's or its own.
@@ -46,7 +53,7 @@ pub record SaidPrackOf (configs : Side → Config) (turns : List Turn) (side : S
   pub has_rack : original.rack ≡ Some rack
   pub rseq_is : rack.rseq ≡ rseq
   pub body_is : original.body ≡ body
-  pub by : IsPracked (configs (peer side)) (rounds_of (peer side) turns) call_id body
+  pub by : IsPracked (configs (peer side)) (rounds_of (peer side) turns) original
 
 -- so is each PRACK that the user of a turn's side is told of, up to the turn's end
 abbrev pub PracksToldWereSaid : (Side → Config) → List Turn → Type 0

@@ -81,11 +81,12 @@ pub fn provisionals_told_were_said(one: Config, other: Config)
 /// response copies Via, From, Call-ID and CSeq from a request that came to the other side, and that
 /// this side said before, except for the stamp; and To, if that has a tag (RFC 3261, section
 /// 8.2.6.2). The other side's user answered that request so: he gave its call a command to respond
-/// with that status and body, which names the request by the id under which it came up. Or the
-/// agent answered it by itself, without a body: with 100, 420, 481, 482 or 500, with 200 if it is a
-/// PRACK or a CANCEL, or with 487 if it is an INVITE for which a CANCEL came. So a user is told of
-/// a 2xx to an INVITE only if the other user gave it. A transaction with the branch and the method
-/// of the response was started under the Call-ID and the id that the user is told.
+/// with that status and body, which names the request by the id under which it came up; it wasn't
+/// refused, since at that input the call asked the request's transaction to send such a response.
+/// Or the agent answered it by itself, without a body: with 100, 420, 481, 482 or 500, with 200 if
+/// it is a PRACK or a CANCEL, or with 487 if it is an INVITE for which a CANCEL came. So a user is
+/// told of a 2xx to an INVITE only if the other user gave it. A transaction with the branch and the
+/// method of the response was started under the Call-ID and the id that the user is told.
 ///
 /// If the rounds of the side that is told have numbers below 2^64 and fewer than 2^64 events each,
 /// of which branches are made: the response has that Call-ID. And unless it is to a CANCEL, it
@@ -106,8 +107,8 @@ pub fn responses_told_were_said(one: Config, other: Config)
 /// other side said that response as a reliable provisional one with that RSeq, as its user answered
 /// the request so. Its CSeq has the number that the RAck names, if the rounds of the side that says
 /// the PRACK are counted as above; and the RAck's method is INVITE (RFC 3262, sections 4 and 7.2).
-/// At whichever of its inputs a call asks a transaction to send such a PRACK, the user is told of
-/// that response at this input or at one before it.
+/// Whenever a call asks a transaction to send such a PRACK, the user is told of that response by an
+/// output of the call that stands before, also among the outputs of one input.
 pub fn pracks_follow_responses(one: Config, other: Config)
     ensures { (turns : List Turn) → Carried (of_sides one other) turns
         → CommandsKeepTypes turns
@@ -117,8 +118,8 @@ pub fn pracks_follow_responses(one: Config, other: Config)
 }
 
 /// In such a conversation, each text that a call sends directly is that of an ACK of its Call-ID,
-/// which keeps the rules of messages and follows the 2xx that it acknowledges: at the input of the
-/// call at which the ACK goes out, or at one before it, the call told its user of a 2xx. In the
+/// which keeps the rules of messages and follows the 2xx that it acknowledges: by an output that
+/// stands before it, also among the outputs of one input, the call told its user of a 2xx. In the
 /// turns before, the other side said that response. If the rounds of the side that sends the ACK
 /// are counted as above, the response answers an INVITE with the ACK's CSeq number, and the ACK is
 /// in the dialog of the response's tags, unless that INVITE was sent in a dialog without a remote
@@ -179,9 +180,10 @@ pub fn requests_told_were_asked_for(one: Config, other: Config)
 }
 
 /// In such a conversation, for each ACK that a user is told of in a turn, the other side said an
-/// ACK with that body in the turns before. Either a call sent it directly, after the user of that
-/// side was told of the 2xx that it acknowledges, as in `acks_follow_responses`. Or a transaction
-/// made it for a response of 300 to 699 (RFC 3261, sections 13.2.2.4 and 17.1.1.3). An INVITE came
+/// ACK with that body in the turns before, and with the Call-ID that is told, if that side's rounds
+/// are counted as above. Either a call sent it directly, after the user of that side was told of
+/// the 2xx that it acknowledges, as in `acks_follow_responses`. Or a transaction made it for a
+/// response of 300 to 699 (RFC 3261, sections 13.2.2.4 and 17.1.1.3). An INVITE came
 /// up to this side under the Call-ID and the id that are told, and its user answered it with a 2xx.
 /// The ACK has the CSeq number of that INVITE, and is in the dialog of the tags of that 2xx
 /// (section 13.3.1.4).
@@ -196,7 +198,8 @@ pub fn acks_told_were_said(one: Config, other: Config)
 /// In such a conversation, for each PRACK that a user is told of in a turn, the other side said a
 /// PRACK of that Call-ID in the turns before, with that body, and with the RSeq that is told in
 /// RAck (RFC 3262, section 7.2). Its user gave the command Prack under that Call-ID with that body,
-/// or there is no body: such a PRACK may be the agent's own.
+/// and a transaction was started with the PRACK under the id of that command. Or there is no body:
+/// such a PRACK may be the agent's own.
 pub fn pracks_told_were_said(one: Config, other: Config)
     ensures { (turns : List Turn) → Carried (of_sides one other) turns
         → CommandsKeepTypes turns
@@ -207,10 +210,12 @@ pub fn pracks_told_were_said(one: Config, other: Config)
 
 /// In such a conversation, for each CANCEL that a user is told of in a turn, the other side said a
 /// CANCEL of that Call-ID in the turns before, because its user gave the command Cancel in that
-/// call. It is the CANCEL of the request that was sent under the id that the command names (RFC
+/// call. It is the CANCEL of the INVITE that was sent under the id that the command names (RFC
 /// 3261, section 9.1), and a transaction was started with it under the id of the command. It came
 /// up for an INVITE that came up under the Call-ID and the id that are told: the transactions of
-/// both have one branch and one sent-by (section 9.2).
+/// both have one branch and one sent-by (section 9.2). If the rounds of the side that said the
+/// CANCEL are counted as above, that is the INVITE that the command names, with the stamp of its
+/// source.
 pub fn cancels_told_were_asked_for(one: Config, other: Config)
     ensures { (turns : List Turn) → Carried (of_sides one other) turns
         → CommandsKeepTypes turns

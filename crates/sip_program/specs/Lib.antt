@@ -4,5 +4,6 @@ pub mod Repair
 pub mod RoundStatus
 pub mod Scheme
 pub mod Status
+pub mod StreamStatus
 pub mod TalkStatus
 pub mod Words

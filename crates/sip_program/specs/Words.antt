@@ -22,9 +22,21 @@ asks_help words = asks_command (codes "help") words || list_any is_help_option w
 abbrev pub is_repair_option : List ℕ → Bool
 is_repair_option word = bytes_eq word (codes "--repair")
 
--- the command, and not its help
+abbrev pub is_streamed_option : List ℕ → Bool
+is_streamed_option word = bytes_eq word (codes "--streamed")
+
+abbrev pub asks_streamed : List (List ℕ) → Bool
+asks_streamed words = list_any is_streamed_option words
+
+-- the command, and not its help, for a whole file
 abbrev pub asks_replay : List (List ℕ) → Bool
-asks_replay words = not (asks_help words) && asks_command (codes "replay") words
+asks_replay words =
+    not (asks_help words) && (asks_command (codes "replay") words && not (asks_streamed words))
+
+-- the same, round by round
+abbrev pub asks_stream : List (List ℕ) → Bool
+asks_stream words =
+    not (asks_help words) && (asks_command (codes "replay") words && asks_streamed words)
 
 abbrev pub asks_repair : List (List ℕ) → Bool
 asks_repair words = list_any is_repair_option words

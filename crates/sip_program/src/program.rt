@@ -1,20 +1,22 @@
 //! The program: what each command does.
 
-ghost use Rattle.std.specs.Prelude.{◌≡◌, ◌≢◌, ◌⊎◌, ◌<◌, ◌≤◌, ◌^◌, Err, IfErr, IfSome, IsFalse, IsTrue, MatchResult, OnOk, length, map};
+ghost use Rattle.std.specs.Prelude.{◌≡◌, ◌≢◌, ◌⊎◌, ◌<◌, ◌≤◌, ◌^◌, Err, IfErr, IfSome, IsFalse, IsTrue, MatchResult, OnErr, OnOk, length, map};
 ghost use Rattle.sip_files.specs.EventFile.{IsFile};
 ghost use Rattle.sip_files.specs.Replay.{TellsReplay, WritesAll, WritesFront};
 ghost use Rattle.sip_program.specs.Inputs.{HasRefusedRound, IsNoFile};
 ghost use Rattle.sip_program.specs.Status.{fault_status};
 ghost use Rattle.sip_ladder.specs.Drawing.{DrawsAll};
 ghost use Rattle.sip_program.specs.Repair.{TellsRepair, replayed};
-ghost use Rattle.sip_program.specs.Words.{asks_help, asks_ladder, asks_repair, asks_replay, kind_asked};
+ghost use Rattle.sip_program.specs.StreamStatus.{TellsStatus};
+ghost use Rattle.sip_program.specs.Words.{asks_help, asks_ladder, asks_repair, asks_replay, asks_stream, kind_asked};
+ghost use Rattle.sip_stream.specs.Streams.{StreamsAll, StreamsFront, TellsStream};
 ghost use Rattle.sip_files.specs.declared.file_replay.ReplayFault.TheVariants as replay_fault;
 
 use crate::failure::Failure;
 use crate::host::Host;
 use crate::noting::NotingRead;
 use crate::repair::whole;
-use crate::status::{finish, finish_talk, show, tell_words};
+use crate::status::{finish, finish_stream, finish_talk, show, tell_words};
 use crate::talk_fault::TalkFault;
 use crate::talking::talk_by;
 use crate::words::{self, CutName, ReplayWords, parse, replay_words};
@@ -22,6 +24,7 @@ use sip_files::{FileKind, ReplayFault, read_all, replay};
 use sip_ladder::ladder;
 use sip_message::{First, Spread};
 use sip_round::OpenGate;
+use sip_stream::{StreamFault, replay_streamed};
 use std::alloc::Global;
 use std::convert::AsStr;
 use std::io::{self, Read, Write};
@@ -32,7 +35,8 @@ use std::thread::Threads;
 ///
 /// `ua replay` reads an event file from `input` and writes its output file to `output`. `ua ladder`
 /// writes the ladder of that file there. With `--session` both also read a session file. With
-/// `--repair`, `ua replay` reads the input only up to its last LF. `ua listen`, `ua call` and `ua
+/// `--repair`, `ua replay` reads the input only up to its last LF; with `--streamed` it reads, runs
+/// and writes round by round. `ua listen`, `ua call` and `ua
 /// agent` write to `notices`, on a thread of their own. `ua agent` reads its commands from the pipe
 /// of `rt`. If help or the version is asked for, it is written to `output`. A fault is written to
 /// `errors` after `ua: `, and what is known about its cause on a line after it. A fault of the words
@@ -82,6 +86,16 @@ pub fn ua<
         (W.contents output.old) (W.contents output.new)
         (replayed (kind_asked (map S.text words.now))
         (asks_repair (map S.text words.now)) input)) }
+    ensures streams { IsTrue (asks_stream (map S.text words.now)) → result ≡ 0
+        → IfSome (R.remaining input.old) (StreamsAll (kind_asked (map S.text words.now))
+        (W.contents output.old) (W.contents output.new)) }
+    ensures stream_front { IsTrue (asks_stream (map S.text words.now)) → result ≢ 0
+        → (output.new ≡ output.old) ⊎ IfSome (R.remaining input.old)
+        (StreamsFront (kind_asked (map S.text words.now))
+        (W.contents output.old) (W.contents output.new)) }
+    ensures stream_fault { IsTrue (asks_stream (map S.text words.now))
+        → (result ≡ 1) ⊎ (result ≡ 3) → IfSome (R.remaining input.old)
+        (TellsStatus (kind_asked (map S.text words.now)) result) }
     ensures draws { IsFalse (asks_replay (map S.text words.now))
         → IsTrue (asks_ladder (map S.text words.now)) → result ≡ 0
         → IfSome (R.remaining input.old)
@@ -97,7 +111,7 @@ pub fn ua<
         → IsTrue (asks_ladder (map S.text words.now)) → result ≡ 3
         → IfSome (R.remaining input.old) (HasRefusedRound (kind_asked (map S.text words.now))) }
     ensures unread { IsFalse (asks_replay (map S.text words.now))
-        → IsFalse (asks_ladder (map S.text words.now)) → input.new ≡ input.old }
+        → IsFalse (asks_stream (map S.text words.now)) → IsFalse (asks_ladder (map S.text words.now)) → input.new ≡ input.old }
     ensures helps { IsTrue (asks_help (map S.text words.now)) → result ≢ 0 → result ≢ 4
         → output.new ≡ output.old }
     ensures bad_words { result ≡ 2 → output.new ≡ output.old }
@@ -119,6 +133,14 @@ pub fn ua<
         let mut input = NotingRead::new(input);
         let end = replay_by(rt, alloc, kind, repairs, words, &mut input, output, errors);
         finish_file(end, input.error, errors)
+    } else if words::asks_stream(words) {
+        let words = replay_words(&matches);
+        let mut input = NotingRead::new(input);
+        let end = stream_by(rt, alloc, kind, words, &mut input, output);
+        let is_unread = end == Err(StreamFault::Input);
+        let status = finish_stream(end, errors);
+        tell_unread(is_unread, input.error, errors);
+        status
     } else if words::asks_ladder(words) {
         let mut input = NotingRead::new(input);
         let end = ladder(rt, alloc, kind, &mut input, output, &OpenGate);
@@ -140,13 +162,18 @@ fn finish_file<E: Write>(
 {
     let is_unread = end == Err(ReplayFault::Input);
     let status = finish(end, errors);
+    tell_unread(is_unread, unread, errors);
+    status
+}
+
+// Writes the error of a read, if that is why the program ends.
+fn tell_unread<E: Write>(is_unread: bool, unread: Option<io::Error>, errors: &mut E) {
     match unread {
         Some(error) if is_unread => {
             let _ = writeln!(errors, "ua: standard input: {error}");
         }
         _ => {}
     }
-    status
 }
 
 // Replays the input, or only what is whole of it. It then says how many bytes are left out.
@@ -219,6 +246,37 @@ fn replay_all<T: Threads + Sync, R: Read, W: Write>(
             )
         }
         CutName::First => replay(
+            rt, alloc, kind, input, output, shards, workers, First, &OpenGate,
+        ),
+    }
+}
+
+// Replays the input round by round, as the words say.
+fn stream_by<T: Threads + Sync, R: Read, W: Write>(
+    rt: &T,
+    alloc: Global,
+    kind: FileKind,
+    words: ReplayWords,
+    input: &mut R,
+    output: &mut W,
+) -> Result<(), StreamFault>
+    ensures replays { OnOk result (IfSome (R.remaining input.old)
+        (StreamsAll kind (W.contents output.old) (W.contents output.new))) }
+    ensures front { OnErr result (IfSome (R.remaining input.old)
+        (StreamsFront kind (W.contents output.old) (W.contents output.new))) }
+    ensures fault { IfErr result
+        (λ fault. IfSome (R.remaining input.old) (TellsStream kind fault)) }
+{
+    let ReplayWords {
+        shards,
+        workers,
+        cut,
+    } = words;
+    match cut {
+        CutName::Spread => replay_streamed(
+            rt, alloc, kind, input, output, shards, workers, Spread, &OpenGate,
+        ),
+        CutName::First => replay_streamed(
             rt, alloc, kind, input, output, shards, workers, First, &OpenGate,
         ),
     }

@@ -4,6 +4,7 @@ ghost use Rattle.std.specs.Prelude.{◌≡◌, ◌≢◌, ◌⊎◌, MatchResult
 ghost use Rattle.std.specs.IoError.{error_kind};
 ghost use Rattle.std.specs.declared.io.ErrorKind.TheVariants as io_kind;
 ghost use Rattle.sip_program.specs.Status.{fault_status};
+ghost use Rattle.sip_program.specs.StreamStatus.{stream_status};
 ghost use Rattle.sip_program.specs.TalkStatus.{talk_status};
 
 use crate::failure::Failure;
@@ -11,7 +12,9 @@ use crate::talk_fault::TalkFault;
 use clap::Error;
 use clap::error::ErrorKind;
 use sip_files::{EventsFault, ReplayFault};
+use sip_journal::LinesFault;
 use sip_round::RoundFault;
+use sip_stream::StreamFault;
 use sip_udp::UaFault;
 use std::io::{self, Write};
 
@@ -83,6 +86,21 @@ pub(crate) fn finish<E: Write>(end: Result<(), ReplayFault>, errors: &mut E) -> 
     }
 }
 
+/// The same for a replay round by round.
+pub(crate) fn finish_stream<E: Write>(end: Result<(), StreamFault>, errors: &mut E) -> u8
+    ensures status { MatchResult end (λ _. result ≡ 0)
+        (λ fault. result ≡ stream_status fault) }
+    ensures words { result ≢ 2 }
+{
+    match end {
+        Ok(()) => SUCCESS,
+        Err(fault) => {
+            let _ = writeln!(errors, "ua: {fault}");
+            stream_status(fault)
+        }
+    }
+}
+
 /// Writes why `ua listen`, `ua call` or `ua agent` stopped and, on a second line, what is known
 /// about the cause. Gives the status of the end.
 pub(crate) fn finish_talk<E: Write>(end: Result<(), Failure>, errors: &mut E) -> u8
@@ -126,6 +144,21 @@ fn talk_status(fault: TalkFault) -> u8
             RoundFault::NoMemory { .. } => NO_MEMORY,
             _ => BAD_ROUND,
         },
+    }
+}
+
+fn stream_status(fault: StreamFault) -> u8
+    ensures status { result ≡ stream_status fault }
+    ensures words { result ≢ 2 }
+{
+    match fault {
+        StreamFault::NoMemory
+        | StreamFault::Head(EventsFault::NoMemory)
+        | StreamFault::Lines(_, LinesFault::NoMemory)
+        | StreamFault::Round(_, RoundFault::NoMemory { .. }) => NO_MEMORY,
+        StreamFault::Head(_) | StreamFault::Lines(..) => BAD_EVENTS,
+        StreamFault::Round(..) => BAD_ROUND,
+        StreamFault::Input | StreamFault::Output => FAILED_DEVICE,
     }
 }
 

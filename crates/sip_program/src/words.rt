@@ -188,16 +188,32 @@ pub fn given_words<R: Env + AllocGlobal>(rt: &R) -> io::Result<Vec<String>> {
 pub(crate) fn asks_help<S: AsStr>(words: &[S]) -> bool
     ensures help { result ≡ spec.asks_help (map S.text words.now) }
     ensures no_replay { IsTrue result → IsFalse (spec.asks_replay (map S.text words.now)) }
+    ensures no_stream { IsTrue result → IsFalse (spec.asks_stream (map S.text words.now)) }
     ensures no_ladder { IsTrue result → IsFalse (spec.asks_ladder (map S.text words.now)) }
 {
     asks_command(words, "help") || has_help_option(words)
 }
 
-/// Whether the command is `replay`.
+/// Whether the command is `replay`, of a whole file.
+#[tactic(auto, using(crate::proofs::Help::not_streamed))]
 pub(crate) fn asks_replay<S: AsStr>(words: &[S]) -> bool
-    ensures { result ≡ spec.asks_replay (map S.text words.now) }
+    ensures asks { result ≡ spec.asks_replay (map S.text words.now) }
+    ensures no_stream { IsTrue result → IsFalse (spec.asks_stream (map S.text words.now)) }
 {
-    !asks_help(words) && asks_command(words, "replay")
+    !asks_help(words) && asks_command(words, "replay") && !asks_streamed(words)
+}
+
+/// Whether the command is `replay`, round by round.
+pub(crate) fn asks_stream<S: AsStr>(words: &[S]) -> bool
+    ensures { result ≡ spec.asks_stream (map S.text words.now) }
+{
+    !asks_help(words) && asks_command(words, "replay") && asks_streamed(words)
+}
+
+fn asks_streamed<S: AsStr>(words: &[S]) -> bool
+    ensures { result ≡ spec.asks_streamed (map S.text words.now) }
+{
+    any_streamed_option(words)
 }
 
 /// Whether only the whole lines of the input are replayed.
@@ -252,6 +268,18 @@ fn is_repair_option(word: &str) -> bool
     ensures { result ≡ spec.is_repair_option word.now }
 {
     word == "--repair"
+}
+
+fn any_streamed_option<S: AsStr>(words: &[S]) -> bool
+    ensures { result ≡ list_any (λ word. spec.is_streamed_option (S.text word)) words.now }
+{
+    words.iter().any(|word| is_streamed_option(word.as_str()))
+}
+
+fn is_streamed_option(word: &str) -> bool
+    ensures { result ≡ spec.is_streamed_option word.now }
+{
+    word == "--streamed"
 }
 
 /// The kind of file that is asked for: a session if one of the words is its option.
@@ -782,12 +810,14 @@ fn workers_argument<'a>(alloc: Global, usual: &'a str) -> Arg<'a> {
 }
 
 fn replay_command<'a>(alloc: Global) -> Result<Command<'a>, AllocError> {
+    let streamed = streamed_argument(alloc)?;
     let arguments = vec![in alloc;
         session_argument(alloc),
         shards_argument(alloc, "1"),
         workers_argument(alloc, "1"),
         cut_argument(alloc),
         repair_argument(alloc),
+        streamed,
     ]?;
     Command::new(alloc, "replay")
         .about(
@@ -817,6 +847,17 @@ fn repair_argument<'a>(alloc: Global) -> Arg<'a> {
             "If the file was cut off, run what is whole of it: up to its last whole line, and \
             without header lines at the end. Say on standard error how many bytes were left out",
         )
+}
+
+fn streamed_argument<'a>(alloc: Global) -> Result<Arg<'a>, AllocError> {
+    let argument = Arg::new(alloc, "streamed")
+        .long("streamed")
+        .action(ArgAction::SetTrue)
+        .help(
+            "Read, run and write round by round. The file may have any length, and what was \
+            written before a fault stays written",
+        );
+    argument.conflicts_with("repair")
 }
 
 // The number of an option. `clap` has checked that it is in its range.

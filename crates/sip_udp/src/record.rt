@@ -1,6 +1,7 @@
 //! Records a run: the event file or the session file of its rounds, or its journal.
 
-ghost use Rattle.std.specs.Prelude.{◌≡◌, List, ℕ, OnOk, Option, IfSome, false};
+ghost use Rattle.std.specs.Prelude.{◌≡◌, List, None, ℕ, OnOk, Option, IfSome, false};
+ghost use Rattle.sip_udp.specs.declared.record.Keeping.TheVariants.{MayFail};
 ghost use Rattle.sip_udp.specs.Recording.{KeepsIfNeeded, Records};
 ghost use Rattle.sip_files.specs.Written.{file_head, round_in};
 
@@ -8,10 +9,15 @@ use crate::fault::UaFault;
 use crate::notices::put;
 use crate::past::Past;
 use crate::record_file::RecordFile;
-use sip_files::{FileKind, write_file_head, write_file_round};
+use sip_files::{FileKind, MAX_EVENTS, write_file_head, write_file_round};
 use sip_round::{Config, Round};
 use std::alloc::Global;
+use std::fmt::Display;
 use std::io::Write;
+
+/// How many bytes the lines of a journal's round may have: as many as can be read again, less some
+/// for the head that is read with them.
+const MAX_LINES: usize = MAX_EVENTS - 4096;
 
 /// What becomes of a run whose record can't be written.
 #[derive(Clone, Copy, PartialEq, Eq)]
@@ -111,7 +117,8 @@ impl<F: RecordFile> Record<F> {
     ///
     /// # Errors
     ///
-    /// `Journal` if the record is needed and can't be written, or `NoMemory`.
+    /// `Journal` if the record is needed and can't be written, or if it is a journal from which the
+    /// round couldn't be read again, since its lines are too long; or `NoMemory`.
     pub fn add<E: Write>(
         &mut self,
         alloc: Global,
@@ -124,12 +131,15 @@ impl<F: RecordFile> Record<F> {
     {
         if self.file.is_some() {
             let text = write_file_round(alloc, self.kind, round)?;
+            if self.is_journal && text.len() > MAX_LINES {
+                return self.give_up(&"round too long", errors);
+            }
             self.write(&text, errors)?;
         }
         Ok(())
     }
 
-    // Writes the text. If that fails, it says so, and gives up recording or the run.
+    // Writes the text. If that fails, it gives up recording or the run.
     fn write<E: Write>(&mut self, text: &[u8], errors: &mut E) -> Result<(), UaFault>
         ensures text { OnOk result (Records F.contents self.old.file self.new.file text.now) }
         ensures kept { OnOk result (KeepsIfNeeded self.old self.new) }
@@ -137,18 +147,29 @@ impl<F: RecordFile> Record<F> {
         let Some(mut file) = self.file.take() else {
             return Ok(());
         };
-        match (put(&mut file, text), self.keeping) {
-            (Ok(()), _) => {
+        match put(&mut file, text) {
+            Ok(()) => {
                 self.file = Some(file);
                 Ok(())
             }
-            (Err(error), Keeping::MayFail) => {
+            Err(error) => self.give_up(&error, errors),
+        }
+    }
+
+    // Says why, and gives up recording, or the run if it needs its record.
+    fn give_up<D: Display, E: Write>(&mut self, why: &D, errors: &mut E) -> Result<(), UaFault>
+        ensures gone { self.new.file ≡ None }
+        ensures kept { OnOk result (self.old.keeping ≡ MayFail) }
+    {
+        self.file = None;
+        match self.keeping {
+            Keeping::MayFail => {
                 let _ = writeln!(errors, "ua: record failed");
-                let _ = writeln!(errors, "ua: --record: {error}");
+                let _ = writeln!(errors, "ua: --record: {why}");
                 Ok(())
             }
-            (Err(error), Keeping::Needed) => {
-                let _ = writeln!(errors, "ua: --journal: {error}");
+            Keeping::Needed => {
+                let _ = writeln!(errors, "ua: --journal: {why}");
                 Err(UaFault::Journal)
             }
         }

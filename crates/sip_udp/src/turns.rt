@@ -35,6 +35,10 @@ use std::time::{Clock, Duration, Instant};
 /// How many datagrams, or lines of a pipe, a turn takes at most.
 pub const MOST_COLLECTED: usize = 1024;
 
+/// How many events a round of a journal has at most. Each is a line of at most 2^20 bytes, the
+/// longest that a pipe takes; the lines of a whole round can be read again up to 2^26 bytes.
+const MOST_JOURNALLED: usize = 63;
+
 /// How long a turn takes at least, in ms; at its bell it waits at most that long.
 const PAUSE: u64 = 10;
 
@@ -255,10 +259,10 @@ impl<U: User, F: RecordFile> Turns<U, F> {
             if self.limit.is_past(self.passed_at(now)) || self.user.is_over(now, self.holds()) {
                 break;
             }
-            if self.is_due(now) {
-                self.turn(rt, outlet, notices, errors)?;
+            let is_full = self.is_due(now) && self.turn(rt, outlet, notices, errors)?;
+            if !is_full {
+                self.pause(rt, now)?;
             }
-            self.pause(rt, now)?;
         }
         Ok(())
     }
@@ -324,14 +328,14 @@ impl<U: User, F: RecordFile> Turns<U, F> {
         has_cause || !(self.user.is_eager() || self.record.is_journal())
     }
 
-    // A round, whose outputs are sent and told.
+    // A round, whose outputs are sent and told. Gives whether it had as many events as it may have.
     fn turn<R: Threads + Clock + Sync, O: Outlet, W: Write, E: Write>(
         &mut self,
         rt: &R,
         outlet: &mut O,
         notices: &mut W,
         errors: &mut E,
-    ) -> Result<(), UaFault> {
+    ) -> Result<bool, UaFault> {
         let number = self.number;
         let (round, outputs) = self.run_round(rt, errors)?;
         self.number = number.saturating_add(1);
@@ -345,7 +349,8 @@ impl<U: User, F: RecordFile> Turns<U, F> {
         if self.tells_ids {
             write_ids(self.alloc, notices, number, events)?;
         }
-        write_notices(self.alloc, notices, telling, events, &outputs)
+        write_notices(self.alloc, notices, telling, events, &outputs)?;
+        Ok(events.len() >= self.most_events())
     }
 
     // Sends the outputs. What failed waits for the next round.
@@ -387,7 +392,7 @@ impl<U: User, F: RecordFile> Turns<U, F> {
     fn collect(&mut self, desk: &mut Desk<Event>) -> Result<(), UaFault>
         ensures { KeepsLines desk.old desk.new }
     {
-        let room = MAX_EVENTS_OF_ROUND.saturating_sub(self.waiting.len());
+        let room = self.most_events().saturating_sub(self.waiting.len());
         let events = desk.collect(room.min(MOST_COLLECTED))?;
         let mut events = self.admission.admit(self.alloc, &self.agent, events)?;
         self.waiting.append(&mut events)?;
@@ -422,10 +427,19 @@ impl<U: User, F: RecordFile> Turns<U, F> {
     }
 
     fn events_of_round(&mut self) -> Result<Series<Event>, AllocError> {
-        let limit = self.waiting.len().min(MAX_EVENTS_OF_ROUND);
+        let limit = self.waiting.len().min(self.most_events());
         let rest = self.waiting.split_off(limit)?;
         let events = mem::replace(&mut self.waiting, rest);
         Ok(Series::from_vec(events))
+    }
+
+    // How many events a round has at most.
+    fn most_events(&self) -> usize {
+        if self.record.is_journal() {
+            MOST_JOURNALLED
+        } else {
+            MAX_EVENTS_OF_ROUND
+        }
     }
 
     // The moment by the clock, in ms. It doesn't go back.

@@ -1,0 +1,5 @@
+pub mod Cutting
+pub mod Dues
+pub mod Ends
+pub mod Joining
+pub mod Turns

@@ -1,0 +1,119 @@
+-- What was read and what is left to read, where that is known.
+use Rattle.std.proofs.Common.{◌≡◌, ℕ, zero, suc, ◌<◌, ◌≤◌, ◌^◌, Bool, false, List, [], ◌∷◌, ◌++◌, length, take, drop, refl, sym, ap, subst, ◌∙◌, append_assoc, append-nil, take-append-drop, arith, inl, inr}
+use Rattle.std.specs.Prelude.{IfSome, Option, None, Some, ◌⊎◌}
+use Rattle.std.specs.Io.KnownBytes.{Consumes, IsAtEnd, Keeps, prepend_known}
+use Rattle.std.proofs.lemmas.List.{drop_all, take_all}
+use Rattle.sip_journal.specs.Rounds.{first_round}
+use Rattle.sip_stream.specs.Streams.{IsNext}
+use Rattle.sip_stream.proofs.Chunks.{is_front, no_longer, same_first}
+
+-- ---- one more read
+
+pub read_on : (all left after : Option (List ℕ)) (text more longer : List ℕ)
+    → Keeps all (prepend_known text left) → Consumes left after more → longer ≡ text ++ more
+    → Keeps all (prepend_known longer after)
+read_on None left after text more longer kept consumed is = tt
+read_on (Some xs) None after text more longer kept consumed is = elim kept [ ]
+read_on (Some xs) (Some ys) None text more longer kept consumed is = elim consumed [ ]
+read_on (Some xs) (Some ys) (Some zs) text more longer kept consumed is =
+    ap (λ (t : List ℕ). t ++ zs) is ∙ append_assoc text more zs
+    ∙ ap (λ (t : List ℕ). text ++ t) (sym consumed) ∙ kept
+
+-- the first bytes are given
+pub given : (all left : Option (List ℕ)) (text first rest : List ℕ) (len : ℕ)
+    → Keeps all (prepend_known text left) → first ≡ take len text → rest ≡ drop len text
+    → Consumes all (prepend_known rest left) first
+given None left text first rest len kept is others = tt
+given (Some xs) None text first rest len kept is others = elim kept [ ]
+given (Some xs) (Some ys) text first rest len kept is others =
+    sym kept ∙ ap (λ (t : List ℕ). t ++ ys) (sym (take-append-drop len text))
+    ∙ append_assoc (take len text) (drop len text) ys
+    ∙ ap (λ (t : List ℕ). t ++ (drop len text ++ ys)) (sym is)
+    ∙ ap (λ (t : List ℕ). first ++ (t ++ ys)) (sym others)
+
+-- ---- the lines that are given
+
+less_or_not : (n m : ℕ) → (n < m) ⊎ (m ≤ n)
+less_or_not n zero = inr (omega arith)
+less_or_not zero (suc m) = inl (omega arith)
+less_or_not (suc n) (suc m) = one_more (less_or_not n m)
+  where
+    one_more : ((n < m) ⊎ (m ≤ n)) → (suc n < suc m) ⊎ (suc m ≤ suc n)
+    one_more (inl less) = inl (omega (arith, less))
+    one_more (inr not) = inr (omega (arith, not))
+
+-- the first lines are in the text
+pub fits : (text slice first : List ℕ) → slice ≡ text → first ≡ first_round slice
+    → length first ≤ length text
+fits text slice first same is =
+    subst (λ (t : List ℕ). length t ≤ length text) (sym (is ∙ ap first_round same))
+    (no_longer text)
+
+-- the first round ends in the text, or nothing follows the text, or it is too long
+abbrev pub MayBeGiven : ℕ → List ℕ → Bool → Type 0
+MayBeGiven len text has_more =
+    (len < length text) ⊎ ((has_more ≡ false) ⊎ (2 ^ 26 < length text))
+
+module _ (text first rest : List ℕ) (len : ℕ) (is_len : len ≡ length (first_round text))
+    (is_first : first ≡ take len text) (is_rest : rest ≡ drop len text) where
+  same_lines : first ≡ first_round text
+  same_lines = is_first ∙ ap (λ (n : ℕ). take n text) is_len ∙ is_front text
+
+  whole : first ++ rest ≡ text
+  whole = ap (λ (t : List ℕ). t ++ rest) is_first ∙ ap (λ (t : List ℕ). take len text ++ t) is_rest
+      ∙ take-append-drop len text
+
+  whole_with : (left : List ℕ) → first ++ (rest ++ left) ≡ text ++ left
+  whole_with left = sym (append_assoc first rest left) ∙ ap (λ (t : List ℕ). t ++ left) whole
+
+  is_next_by : (left : List ℕ) (has_more : Bool) → MayBeGiven len text has_more
+      → (has_more ≡ false → left ≡ []) → IsNext first (rest ++ left)
+  is_next_by left has_more (inl ends) over =
+      let shorter : length (first_round text) < length text = omega (arith, ends, is_len) in
+      inl (same_lines ∙ sym (same_first text left shorter) ∙ ap first_round (sym (whole_with left)))
+  is_next_by left has_more (inr (inl none)) over =
+      inl (same_lines ∙ ap first_round (sym (append-nil text)
+      ∙ ap (λ (t : List ℕ). text ++ t) (sym (over none)) ∙ sym (whole_with left)))
+  is_next_by left has_more (inr (inr long)) over =
+      by_length (less_or_not len (length text))
+    where
+      by_length : ((len < length text) ⊎ (length text ≤ len)) → IsNext first (rest ++ left)
+      by_length (inl ends) =
+          let shorter : length (first_round text) < length text = omega (arith, ends, is_len) in
+          inl (same_lines ∙ sym (same_first text left shorter)
+          ∙ ap first_round (sym (whole_with left)))
+      by_length (inr all) =
+          let same : first ≡ text = is_first ∙ take_all len text all in
+          inr (subst (λ (t : List ℕ). 2 ^ 26 < length t) (sym same) long)
+
+  pub is_next : (left : Option (List ℕ)) (has_more : Bool) → MayBeGiven len text has_more
+      → (has_more ≡ false → IsAtEnd left) → IfSome (prepend_known rest left) (IsNext first)
+  is_next None has_more may over = tt
+  is_next (Some left) has_more may over = is_next_by left has_more may over
+
+  -- no lines at the end alone
+  nothing_there : (t : List ℕ) → first_round t ≡ [] → t ≡ []
+  unfolding first_round
+  nothing_there [] is = refl
+  nothing_there (b ∷ bytes) is = absurd cc
+
+  at_end_by : (left : Option (List ℕ)) (others : List ℕ) → others ≡ [] → IsAtEnd left
+      → IsAtEnd (prepend_known others left)
+  at_end_by None others none over = tt
+  at_end_by (Some left) others none over =
+      ap (λ (t : List ℕ). t ++ left) none ∙ over
+
+  pub at_end : (left : Option (List ℕ)) (has_more : Bool) → MayBeGiven len text has_more
+      → (has_more ≡ false → IsAtEnd left) → first ≡ [] → IsAtEnd (prepend_known rest left)
+  at_end left has_more may over none =
+      let empty : text ≡ [] = nothing_there text (sym same_lines ∙ none) in
+      let none_left : length text ≤ len = omega (arith, ap length empty) in
+      at_end_by left rest (is_rest ∙ drop_all len text none_left) (by_cause may empty)
+    where
+      short : (t : List ℕ) → t ≡ [] → length t ≡ 0
+      short t is = ap length is
+
+      by_cause : MayBeGiven len text has_more → text ≡ [] → IsAtEnd left
+      by_cause (inl ends) empty = absurd (omega (arith, ends, short text empty))
+      by_cause (inr (inl none)) empty = over none
+      by_cause (inr (inr long)) empty = absurd (omega (arith, long, short text empty))

@@ -1,0 +1,97 @@
+-- Steps of a replay round by round.
+use Rattle.std.specs.Prelude.{◌≡◌, ℕ, List, [], ◌∷◌, ◌++◌, Option, None, Some}
+use Rattle.std.specs.Io.KnownBytes.{Appends, Consumes}
+use Rattle.sip_files.specs.EventFile.{SpellsFile, TellsFault}
+use Rattle.sip_files.specs.Replay.{answer_file}
+use Rattle.sip_files.specs.Written.{head_in}
+use Rattle.sip_files.specs.declared.version.FileKind.{FileKind}
+use Rattle.sip_files.specs.declared.version.Version.{Version}
+use Rattle.sip_journal.specs.Rounds.{some_config}
+use Rattle.sip_round.specs.AgentState.{AgentState}
+use Rattle.sip_round.specs.Answers.{StandsFor, refused}
+use Rattle.sip_round.specs.declared.config.Config.{Config}
+use Rattle.sip_round.specs.declared.round.Round.{Round}
+use Rattle.sip_round.specs.declared.round_fault.RoundFault.{RoundFault}
+use Rattle.sip_round.specs.declared.round_fault.RoundFault.TheVariants as round_fault
+use Rattle.sip_stream.specs.Streams.{TellsLines}
+use Rattle.sip_stream.specs.declared.stream_fault.StreamFault.{StreamFault}
+use Rattle.sip_stream.specs.declared.stream_fault.StreamFault.TheVariants as fault
+
+-- the lines aren't a head, or memory ran out
+abbrev pub TellsHead : FileKind → List ℕ → StreamFault → Type 0
+TellsHead kind lines fault.Input = ⊥
+TellsHead kind lines (fault.Head given) = TellsFault kind given lines
+TellsHead kind lines (fault.Lines at given) = ⊥
+TellsHead kind lines (fault.Round at given) = ⊥
+TellsHead kind lines fault.Output = ⊥
+TellsHead kind lines fault.NoMemory = Unit {0}
+
+-- the lines of the round with this index have this fault, or memory ran out
+abbrev pub TellsRound : FileKind → Version → ℕ → List ℕ → StreamFault → Type 0
+TellsRound kind version index lines fault.Input = ⊥
+TellsRound kind version index lines (fault.Head given) = ⊥
+TellsRound kind version index lines (fault.Lines at given) =
+    (at ≡ index) × TellsLines kind version given lines
+TellsRound kind version index lines (fault.Round at given) = ⊥
+TellsRound kind version index lines fault.Output = ⊥
+TellsRound kind version index lines fault.NoMemory = Unit {0}
+
+-- an agent stands for these rounds, of which none was refused
+pub record Stands {C : Type 0} (shard_of : C → List ℕ → ℕ → ℕ) (agent : AgentState C)
+    (config : Config) (rounds : List Round) : Type 0 where
+  pub stands : StandsFor shard_of agent config rounds
+  pub unrefused : refused config rounds ≡ None
+
+-- the agent stands for one more round, and what it gives was written
+pub record GoesOn {C : Type 0} (shard_of : C → List ℕ → ℕ → ℕ) (new : AgentState C)
+    (old_bytes new_bytes : Option (List ℕ)) (config : Config) (rounds : List Round)
+    (round : Round) : Type 0 where
+  pub stands : Stands shard_of new config (rounds ++ round ∷ [])
+  pub text : List ℕ
+  pub appended : Appends old_bytes new_bytes text
+  pub answered : answer_file config (rounds ++ round ∷ []) ≡ answer_file config rounds ++ text
+
+-- a front of what one more round gives was written
+pub record Stops (old_bytes new_bytes : Option (List ℕ)) (config : Config) (rounds : List Round)
+    (round : Round) : Type 0 where
+  pub front : List ℕ
+  pub more : List ℕ
+  pub appended : Appends old_bytes new_bytes front
+  pub answered : answer_file config (rounds ++ round ∷ [])
+      ≡ answer_file config rounds ++ (front ++ more)
+
+-- the fault of a round that was refused; lack of memory has a fault of its own
+abbrev pub refused_as : ℕ → RoundFault → StreamFault
+refused_as index round_fault.Broken = fault.Round index round_fault.Broken
+refused_as index round_fault.MomentBackwards = fault.Round index round_fault.MomentBackwards
+refused_as index round_fault.MomentTooLarge = fault.Round index round_fault.MomentTooLarge
+refused_as index round_fault.TooManyEvents = fault.Round index round_fault.TooManyEvents
+refused_as index round_fault.RoundsUsedUp = fault.Round index round_fault.RoundsUsedUp
+refused_as index (round_fault.NoMemory broken) = fault.NoMemory
+
+-- what a fault of one more round tells
+abbrev pub TellsStep : Config → List Round → Round → StreamFault → Type 0
+TellsStep config rounds round fault.Input = ⊥
+TellsStep config rounds round (fault.Head given) = ⊥
+TellsStep config rounds round (fault.Lines at given) = ⊥
+TellsStep config rounds round (fault.Round at given) =
+    refused config (rounds ++ round ∷ []) ≡ Some (at, given)
+TellsStep config rounds round fault.Output = Unit {0}
+TellsStep config rounds round fault.NoMemory = Unit {0}
+
+-- ---- the whole
+
+-- The rounds of this file were run, and their output file was written. The head is one of the
+-- file's version.
+pub record SoFar {C : Type 0} (shard_of : C → List ℕ → ℕ → ℕ) (kind : FileKind)
+    (agent : AgentState C) (first : ℕ) (head : List ℕ)
+    (input pending old_bytes new_bytes : Option (List ℕ)) : Type 0 where
+  pub config : Config
+  pub rounds : List Round
+  pub file : List ℕ
+  pub spelled : SpellsFile kind config rounds file
+  pub consumed : Consumes input pending file
+  pub stands : Stands shard_of agent config rounds
+  pub numbered : first ≡ config.first
+  pub headed : head ≡ head_in (spelled.0) some_config
+  pub appended : Appends old_bytes new_bytes (answer_file config rounds)

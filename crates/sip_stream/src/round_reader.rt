@@ -1,0 +1,97 @@
+//! Reads a file by the lines of its rounds.
+
+ghost use Rattle.std.specs.Prelude.{◌≡◌, ◌⊎◌, ◌≤◌, [], false, drop, length, take, IfErr, IfOk, IfSome, OnOk};
+ghost use Rattle.std.specs.Io.KnownBytes.{Consumes, IsAtEnd, Keeps, prepend_known};
+ghost use Rattle.sip_stream.specs.Streams.{IsNext};
+ghost use Rattle.sip_stream.specs.declared.stream_fault.StreamFault.TheVariants as stream_fault;
+
+use crate::stream_fault::StreamFault;
+use sip_files::{CountedRead, MAX_EVENTS};
+use sip_journal::first_round_of;
+use std::alloc::Global;
+use std::mem;
+
+/// How many bytes one read asks for.
+const CHUNK: usize = 4096;
+
+/// What was read and not given yet.
+#[derive(Drop)]
+pub(crate) struct RoundReader {
+    text: Vec<u8>,
+}
+
+impl RoundReader {
+    /// Nothing was read yet.
+    pub(crate) fn new(alloc: Global) -> RoundReader
+        ensures { result.text.items ≡ [] }
+    {
+        RoundReader {
+            text: Vec::new(alloc),
+        }
+    }
+
+    /// The lines up to the next one that begins a round; none at the end. Of lines that are longer
+    /// than a file may be, it gives as many as it has.
+    ///
+    /// # Errors
+    ///
+    /// `Input` or `NoMemory`.
+    pub(crate) fn next_lines<R: CountedRead>(
+        &mut self,
+        reader: &mut R,
+    ) -> Result<Vec<u8>, StreamFault>
+        ensures given { IfOk result (λ lines.
+            Consumes (prepend_known self.old.text.items (R.remaining reader.old))
+            (prepend_known self.new.text.items (R.remaining reader.new)) lines.items) }
+        ensures next { IfOk result (λ lines.
+            IfSome (prepend_known self.new.text.items (R.remaining reader.new))
+            (IsNext lines.items)) }
+        ensures end { IfOk result (λ lines. lines.items ≡ []
+            → IsAtEnd (prepend_known self.new.text.items (R.remaining reader.new))) }
+        ensures fault { IfErr result (λ fault.
+            (fault ≡ stream_fault.Input) ⊎ (fault ≡ stream_fault.NoMemory)) }
+    {
+        let mut has_more = true;
+        for _ in 0..=MAX_EVENTS {
+            let len = first_round_of(&self.text).len();
+            if len < self.text.len() || !has_more || self.text.len() > MAX_EVENTS {
+                return Ok(self.take(len)?);
+            }
+            has_more = self.read_more(reader)?;
+        }
+        // Each turn read a byte at least, so there was one with too many.
+        Err(StreamFault::NoMemory)
+    }
+
+    // Takes the first bytes.
+    fn take(&mut self, len: usize) -> Result<Vec<u8>, StreamFault>
+        requires { len ≤ length self.old.text.items }
+        ensures taken { IfOk result (λ taken. taken.items ≡ take len self.old.text.items) }
+        ensures rest { OnOk result (self.new.text.items ≡ drop len self.old.text.items) }
+        ensures fault { IfErr result (λ fault. fault ≡ stream_fault.NoMemory) }
+    {
+        let rest = self.text.split_off(len)?;
+        Ok(mem::replace(&mut self.text, rest))
+    }
+
+    // Reads as much again as there is, and at least once. Gives whether there may be more.
+    fn read_more<R: CountedRead>(&mut self, reader: &mut R) -> Result<bool, StreamFault>
+        ensures same { OnOk result (Keeps
+            (prepend_known self.old.text.items (R.remaining reader.old))
+            (prepend_known self.new.text.items (R.remaining reader.new))) }
+        ensures end { IfOk result
+            (λ has_more. has_more ≡ false → IsAtEnd (R.remaining reader.new)) }
+        ensures fault { IfErr result (λ fault.
+            (fault ≡ stream_fault.Input) ⊎ (fault ≡ stream_fault.NoMemory)) }
+    {
+        let mut chunk = [0u8; CHUNK];
+        for _ in 0..=self.text.len() / CHUNK {
+            match reader.read_once(&mut chunk) {
+                Ok(0) => return Ok(false),
+                Ok(count) => self.text.extend_from_slice(&chunk[..count])?,
+                Err(_) => return Err(StreamFault::Input),
+            }
+        }
+        Ok(true)
+    }
+}
