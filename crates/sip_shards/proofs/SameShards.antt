@@ -2,7 +2,7 @@
 use Rattle.std.proofs.Common.{◌≡◌, ◌<◌, ◌≤◌, ◌+◌, ℕ, suc, List, [], ◌∷◌, ◌++◌, length, cond, get_or, take, sym, ◌∙◌, ap, arith, subst}
 use Rattle.std.proofs.lemmas.List.{take_all, take_more}
 use Rattle.std.proofs.lemmas.List.Elements.{AllZip-get_or, all_zip_more}
-use Rattle.std.specs.Prelude.{None, map}
+use Rattle.std.specs.Prelude.{◌↔◌, None, map}
 use Rattle.std.specs.List.{AllZip}
 use Rattle.std.specs.declared.cmp.Ordering.{Ordering}
 use Rattle.keyed_machine.specs.Laws.{ShardsHoldApart}
@@ -26,6 +26,14 @@ zip_of_shards R f [] [] all = tt
 zip_of_shards R f [] (y ∷ ys) all = absurd all
 zip_of_shards R f (x ∷ xs) [] all = absurd all
 zip_of_shards R f (x ∷ xs) (y ∷ ys) all = (all.0, zip_of_shards R f xs ys all.1)
+
+-- what a test tells of two lists it tells of lists that are the same
+pub zip_of_same : {A X Y : Type 0} (R : Y → Y → Type 0) (f : X → Y) {xs ys zs ws : List X}
+    → xs ≡ zs → ys ≡ ws → A ↔ AllZip R (map f xs) (map f ys)
+    → A ↔ AllZip R (map f zs) (map f ws)
+zip_of_same {A} R f {ys} {zs} one other says =
+    subst (λ list. A ↔ AllZip R (map f zs) (map f list)) other
+    (subst (λ list. A ↔ AllZip R (map f list) (map f ys)) one says)
 
 -- ---- a loop over two lists side by side
 
