@@ -31,6 +31,6 @@ returns-else-hold_the_same-clause-same c =
     (c.as_slice.ensures.value ∙ ap (λ s. s.transactions) c.self.view_is)
     (c.as_slice-2.ensures.value ∙ ap (λ s. s.transactions) c.others.view_is)
     c.hold_the_same.ensures in (
-      (λ no. absurd (false≢true no)),
+      (λ yes. absurd (false≢true (sym c.if-hold_the_same.false ∙ yes))),
       λ same. absurd (false≢true (sym c.if-hold_the_same.false ∙ lives.1 same.transactions)),
     )
