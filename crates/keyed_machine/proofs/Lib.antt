@@ -13,6 +13,7 @@ pub mod Parts
 pub mod Phases
 pub mod Rules
 pub mod SameKeys
+pub mod SameStates
 pub mod Shards
 pub mod Spoken
 pub mod Tick

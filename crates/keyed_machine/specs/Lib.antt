@@ -3,6 +3,7 @@ pub mod Laws
 pub mod Machine
 pub mod Phase
 pub mod Rules
+pub mod SameTables
 pub mod Shards
 pub mod Table
 pub mod Groups

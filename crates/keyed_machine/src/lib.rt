@@ -2,6 +2,8 @@
 //! the table of the keys that have a state.
 #![tactic(auto)]
 
+mod comparable_machine;
+mod comparable_shard;
 mod fault;
 mod item;
 mod items;
@@ -11,10 +13,13 @@ mod laws;
 mod machine;
 mod one_key;
 mod phase_outputs;
+mod same_states;
 mod states;
 mod table;
 mod ticks;
 
+pub use comparable_machine::ComparableMachine;
+pub use comparable_shard::ComparableShard;
 pub use fault::ShardFault;
 pub use item::Item;
 pub use key_shard::KeyShard;

@@ -10,12 +10,14 @@ ghost use Rattle.keyed_machine.specs.Groups.{groups};
 ghost use Rattle.keyed_machine.specs.History.{AddsInput, AddsInputs};
 ghost use Rattle.sip_timers.specs.Queue.{is_due};
 
+use crate::comparable_machine::ComparableMachine;
 use crate::fault::ShardFault;
 use crate::item::Item;
 use crate::items::deal_items;
 use crate::machine::StateMachine;
 use crate::one_key::{hold_key, step_key};
 use crate::phase_outputs::PhaseOutputs;
+use crate::same_states::hold_the_same;
 use crate::states::find;
 use crate::ticks::{joined, tick_due, tick_if};
 use seeded_hash::HashSeed;
@@ -284,5 +286,21 @@ impl<M: StateMachine> Table<M> {
         let items = deal_items(self.alloc, machine, &mut states, &mut dues, now, items)?;
         self.live = Some(Live { states, dues });
         Ok(PhaseOutputs { ticks, items })
+    }
+}
+
+impl<M: ComparableMachine> Table<M> {
+    ghost use Rattle.std.specs.Prelude.{◌↔◌};
+    ghost use Rattle.keyed_machine.specs.SameTables.{HoldTheSame};
+
+    /// Whether another table holds the same keys with the same states. A broken table never does.
+    /// Takes no memory.
+    pub fn holds_the_same(&self, machine: &M, other: &Table<M>) -> bool
+        ensures { IsTrue result ↔ HoldTheSame M.Key.cmp self.now other.now }
+    {
+        match (&self.live, &other.live) {
+            (Some(live), Some(other)) => hold_the_same(machine, &live.states, &other.states),
+            _ => false,
+        }
     }
 }

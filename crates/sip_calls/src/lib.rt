@@ -4,6 +4,7 @@
 mod call;
 mod calls;
 mod laws;
+mod same_calls;
 mod shard;
 
 pub use call::Call;

@@ -9,7 +9,9 @@ ghost use Rattle.sip_calls.specs.Call.{call_machine};
 
 use crate::call::Call;
 use crate::calls::Calls;
-use keyed_machine::{Item as ShardItem, KeyShard, PhaseOutputs, ShardFault, Table};
+use keyed_machine::{
+    ComparableShard, Item as ShardItem, KeyShard, PhaseOutputs, ShardFault, Table,
+};
 use seeded_hash::HashSeed;
 use sip_message::{Addr, CallId, Id};
 use sip_user::{CallOut, Item};
@@ -149,5 +151,11 @@ impl KeyShard for CallShard {
     fn into_states(self) -> Option<HashMap<CallId, Call, HashSeed>> {
         let CallShard { calls: _, table } = self;
         table.into_states()
+    }
+}
+
+impl ComparableShard for CallShard {
+    fn holds_the_same(&self, other: &CallShard) -> bool {
+        self.table.holds_the_same(&self.calls, &other.table)
     }
 }

@@ -10,6 +10,7 @@ use indexmap::IndexMap;
 use seeded_hash::HashSeed;
 use sip_held_dialogs::DialogId;
 use sip_message::Addr;
+use sip_same::{SameValue, are_same_maps};
 use sip_text::Text;
 use std::alloc::{AllocError, Global};
 use std::marker::Model;
@@ -82,6 +83,12 @@ impl Answers {
     {
         self.acks.insert(name, ack)?;
         Ok(())
+    }
+}
+
+impl SameValue for Answers {
+    fn is_same(&self, other: &Answers) -> bool {
+        are_same_maps(&self.acks, &other.acks)
     }
 }
 

@@ -21,6 +21,7 @@ use crate::tick::{drop_clients, drop_dialogs, next_due, over_notices};
 use indexmap::IndexMap;
 use sip_held_dialogs::{DialogId, Dialogs, PendingRequest};
 use sip_message::{CallId, Id, Message};
+use sip_same::{SameValue, are_same_maps};
 use sip_user::outputs::refused;
 use sip_user::{
     AbandonDialog, AbandonRequest, CallOut, Cancel, DialogBody, DialogRequest, Invite, Plain,
@@ -302,6 +303,12 @@ impl Clients {
         let outs = abandon_dialog(self.alloc, dialogs, event, command)?;
         self.requests = requests;
         Ok(outs)
+    }
+}
+
+impl SameValue for Clients {
+    fn is_same(&self, other: &Clients) -> bool {
+        are_same_maps(&self.requests, &other.requests)
     }
 }
 

@@ -20,6 +20,7 @@ mod pending;
 mod replied;
 mod reply;
 mod rules;
+mod same_clients;
 mod send_outcome;
 mod tick;
 

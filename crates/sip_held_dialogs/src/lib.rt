@@ -7,6 +7,7 @@ mod held_dialog;
 mod laws;
 mod pending_request;
 pub mod request;
+mod same_dialogs;
 
 pub use dialogs::Dialogs;
 pub use held_dialog::{DialogId, DialogReference, HeldDialog};

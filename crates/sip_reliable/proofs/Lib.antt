@@ -4,3 +4,4 @@ pub mod Sounds
 pub mod Repeats
 pub mod Ledgers
 pub mod Dues
+pub mod SameLists

@@ -1,6 +1,6 @@
 //! The reliable provisional responses that a caller takes.
 
-ghost use Rattle.std.specs.Prelude.{◌≡◌, ℕ, List, [], ◌∷◌, ◌++◌, ◌≢◌, None, AllPairs};
+ghost use Rattle.std.specs.Prelude.{◌≡◌, ◌↔◌, ℕ, IsTrue, List, [], ◌∷◌, ◌++◌, ◌≢◌, None, AllPairs};
 ghost use Rattle.sip_reliable.specs.Inbound.{in_order, latest, offered, taken, latest_after, IsConsecutive};
 
 use crate::Offer;
@@ -46,6 +46,17 @@ impl Inbound {
             → in_order (came ++ rseq ∷ []) ≡ in_order came ++ taken result rseq }
     {
         self.step(rseq)
+    }
+
+    /// Whether another one took the same latest number.
+    pub fn is_same(&self, other: &Inbound) -> bool
+        ensures { IsTrue result ↔ (self.now ≡ other.now) }
+    {
+        match (self.latest, other.latest) {
+            (None, None) => true,
+            (Some(latest), Some(other)) => latest == other,
+            _ => false,
+        }
     }
 
     fn step(&mut self, rseq: u32) -> Offer

@@ -1,6 +1,6 @@
 //! One reliable provisional response that was sent, and when it is sent again.
 
-ghost use Rattle.std.specs.Prelude.{◌≡◌, ◌≤◌, ◌+◌, ◌^◌, [], None};
+ghost use Rattle.std.specs.Prelude.{◌≡◌, ◌↔◌, IsTrue, ◌≤◌, ◌+◌, ◌^◌, [], None};
 ghost use Rattle.sip_reliable.specs.Provisional as spec;
 
 use sip_timers::{LIFETIME, T1};
@@ -111,6 +111,16 @@ impl Provisional {
         }
     }
 
+    /// Whether another one has the same number, body and moments.
+    pub(crate) fn is_same(&self, other: &Provisional) -> bool
+        ensures { IsTrue result ↔ (self.now ≡ other.now) }
+    {
+        self.number == other.number
+            && self.has_body == other.has_body
+            && self.sent == other.sent
+            && are_same(self.retransmission, other.retransmission)
+    }
+
     /// From now on it isn't sent again.
     pub(crate) fn give_up(&mut self)
         ensures { self.new ≡ spec.given_up self.old }
@@ -146,5 +156,15 @@ impl Provisional {
         ensures { result ≡ spec.end_of self.now }
     {
         self.sent + u64::from(LIFETIME)
+    }
+}
+
+fn are_same(one: Option<Retransmission>, other: Option<Retransmission>) -> bool
+    ensures { IsTrue result ↔ (one ≡ other) }
+{
+    match (one, other) {
+        (None, None) => true,
+        (Some(one), Some(other)) => one.due == other.due && one.repeats == other.repeats,
+        _ => false,
     }
 }

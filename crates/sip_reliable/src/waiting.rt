@@ -1,6 +1,6 @@
 //! All reliable provisional responses to one INVITE that wait for their PRACK.
 
-ghost use Rattle.std.specs.Prelude.{◌≡◌, ◌==◌, ◌≤◌, ◌^◌, map, fold, length, None};
+ghost use Rattle.std.specs.Prelude.{◌≡◌, ◌↔◌, IsTrue, ◌==◌, ◌≤◌, ◌^◌, map, fold, length, None};
 ghost use Rattle.std.specs.List.{list_any};
 ghost use Rattle.sip_timers.specs.Earlier.{earlier};
 ghost use Rattle.sip_reliable.specs.Provisional as spec;
@@ -85,4 +85,20 @@ pub(crate) fn next_due(waiting: &[Provisional]) -> Option<u64>
     waiting
         .iter()
         .fold(None, |due, one| earlier(due, one.next_due()))
+}
+
+/// Whether the same ones wait.
+#[tactic(auto, using(crate::proofs::SameLists::same_at, crate::proofs::SameLists::one_more_same))]
+pub(crate) fn are_same(waiting: &[Provisional], others: &[Provisional]) -> bool
+    ensures { IsTrue result ↔ (waiting.now ≡ others.now) }
+{
+    if waiting.len() != others.len() {
+        return false;
+    }
+    for (place, one) in waiting.iter().enumerate() {
+        if !one.is_same(&others[place]) {
+            return false;
+        }
+    }
+    true
 }

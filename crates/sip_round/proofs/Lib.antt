@@ -31,6 +31,7 @@ pub mod RequestsDiffer
 pub mod RequestsOnce
 pub mod RequestsRise
 pub mod Runs
+pub mod SameAgents
 pub mod SoFar
 pub mod Said
 pub mod SaidInDialogs

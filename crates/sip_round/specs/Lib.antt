@@ -10,4 +10,5 @@ pub mod NextDue
 pub mod Outputs
 pub mod Phases
 pub mod Places
+pub mod SameRounds
 pub mod Steps

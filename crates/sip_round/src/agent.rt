@@ -1,7 +1,7 @@
 //! An agent: its transactions and its calls, led through rounds.
 
 ghost use Rattle.std.specs.List.{AllByRecursion};
-ghost use Rattle.std.specs.Prelude.{ℕ, ◌≡◌, ◌⊎◌, ◌+◌, ◌++◌, ◌∷◌, ◌<◌, ◌≤◌, ◌^◌, IfOk, IfSome, IsSome, IsTrue, OnErr, OnOk, Some, None, Ok, Err, List, [], false, true, length, map};
+ghost use Rattle.std.specs.Prelude.{ℕ, ◌≡◌, ◌↔◌, ◌⊎◌, ◌+◌, ◌++◌, ◌∷◌, ◌<◌, ◌≤◌, ◌^◌, IfOk, IfSome, IsSome, IsTrue, OnErr, OnOk, Some, None, Ok, Err, List, [], false, true, length, map};
 ghost use Rattle.sip_message.specs.Key.{branch_in};
 ghost use Rattle.sip_round.specs.Arrivals.{arrivals_from};
 ghost use Rattle.sip_round.specs.Steps.Arrived.{IsArrived};
@@ -21,6 +21,7 @@ use crate::waiting::{SetOut, set_out};
 use keyed_machine::laws_of_phases;
 use sip_calls::Calls;
 use sip_message::{Cut, Message, key_of};
+use sip_same::SameValue;
 use sip_shards::{parts_of, tell_of_each};
 use sip_transactions::Transactions;
 use sip_workers::{Gate, NoMemory};
@@ -89,6 +90,7 @@ impl<C: Cut + Drop> Agent<C> {
     ghost use Rattle.sip_round.specs.Live.{live_of};
     ghost use Rattle.sip_round.specs.NewTransactions.{would_begin};
     ghost use Rattle.sip_round.specs.NextDue.{IsDueAfter, IsQuietAfter};
+    ghost use Rattle.sip_round.specs.SameRounds.{LeaveTheSame};
     ghost use Rattle.sip_timers.specs.Queue.{is_due};
     ghost use Rattle.sip_round.specs.declared.config.Config.{Config};
     ghost use Rattle.sip_round.specs.declared.round.Round.{Round};
@@ -403,6 +405,46 @@ impl<C: Cut + Drop> Agent<C> {
         };
         self.shards = Some(moved);
         Ok(())
+    }
+
+    /// Whether another agent, whose cut is the same, answers every later round as this one does:
+    /// it holds the same transactions and calls in as many shards, is at the same round number and
+    /// moment, and shares the same settings among its calls. The two may have come there by
+    /// different rounds. A broken agent never is the same. Takes no memory.
+    pub fn holds_the_same(&self, other: &Agent<C>) -> bool
+        // Whatever rounds this agent stands for, the other one stands for them too.
+        ensures stands { IsTrue result → self.now.cut ≡ other.now.cut
+            → (config : Config) (rounds : List Round)
+            → StandsFor C.shard_of self.now config rounds
+            → StandsFor C.shard_of other.now config rounds }
+
+        // Agents with as many shards that stand for rounds which leave the same hold the same.
+        ensures same { self.now.cut ≡ other.now.cut → shard_count self.now ≡ shard_count other.now
+            → (config other_config : Config) (rounds other_rounds : List Round)
+            → StandsFor C.shard_of self.now config rounds
+            → StandsFor C.shard_of other.now other_config other_rounds
+            → LeaveTheSame config other_config rounds other_rounds → IsTrue result }
+    {
+        laws_of_phases(&Transactions);
+        laws_of_phases(&other.calls);
+        let Some(shards) = &self.shards else {
+            return false;
+        };
+        let Some(others) = &other.shards else {
+            return false;
+        };
+        self.is_at_the_same(other) && shards.hold_the_same(others)
+    }
+
+    // Whether another agent is at the same round number and moment, with the same settings.
+    fn is_at_the_same(&self, other: &Agent<C>) -> bool
+        ensures { IsTrue result ↔ ((self.now.calls ≡ other.now.calls)
+            × (self.now.next_round ≡ other.now.next_round)
+            × (self.now.last_moment ≡ other.now.last_moment)) }
+    {
+        self.calls.is_same(&other.calls)
+            && self.next_round == other.next_round
+            && self.last_moment == other.last_moment
     }
 
     // Why this round is refused before anything is done.

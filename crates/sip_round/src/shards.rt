@@ -1,6 +1,6 @@
 //! The shards of an agent.
 
-ghost use Rattle.std.specs.Prelude.{◌≡◌, ◌⊎◌, ◌<◌, ◌≤◌, ℕ, Bool, List, Some, [], IfOk, IfSome, IsSome, IsTrue, All, count_by, is_some, length, map, sum_by, true, false, vec_len};
+ghost use Rattle.std.specs.Prelude.{◌≡◌, ◌↔◌, ◌⊎◌, ◌<◌, ◌≤◌, ℕ, Bool, List, Some, [], IfOk, IfSome, IsSome, IsTrue, All, count_by, is_some, length, map, sum_by, true, false, vec_len};
 ghost use Rattle.std.specs.List.{AllByRecursion};
 ghost use Rattle.sip_calls.specs.Call.{call_due, call_machine, CallItem};
 ghost use Rattle.sip_calls.specs.CallShard.{call_cmp};
@@ -16,7 +16,7 @@ use keyed_machine::KeyShard;
 use seeded_hash::HashSeed;
 use sip_calls::{CallShard, Calls};
 use sip_message::{Cut, SharedKey};
-use sip_shards::{Named, are_idle, next_due_in, transfer};
+use sip_shards::{Named, are_idle, hold_the_same, next_due_in, transfer};
 use sip_timers::earlier;
 use sip_transactions::{Shard, Transactions};
 use sip_workers::NoMemory;
@@ -56,6 +56,7 @@ impl Shards {
     ghost use Rattle.sip_round.specs.Answers.{HoldCalls, HoldTransactions};
     ghost use Rattle.keyed_machine.specs.Machine.{Timed, tick_at};
     ghost use Rattle.sip_transactions.specs.declared.input.Input.{Input};
+    ghost use Rattle.sip_round.specs.SameRounds.{ShardsHoldTheSame};
 
     /// `shards` shards that hold nothing. Their calls share `calls`.
     pub(crate) fn new(alloc: Global, calls: Calls, shards: usize) -> Result<Shards, AllocError>
@@ -190,6 +191,16 @@ impl Shards {
             Some(shard) => shard.state_of(key).is_some(),
             None => false,
         }
+    }
+
+    /// Whether other shards hold, one by one, the same. Takes no memory.
+    pub(crate) fn hold_the_same(&self, others: &Shards) -> bool
+        ensures shards { AreShards self.now }
+        ensures others { AreShards others.now }
+        ensures same { IsTrue result ↔ ShardsHoldTheSame self.now others.now }
+    {
+        hold_the_same(self.transactions.as_slice(), others.transactions.as_slice())
+            && hold_the_same(self.calls.as_slice(), others.calls.as_slice())
     }
 
     /// How many transactions and how many calls are held.

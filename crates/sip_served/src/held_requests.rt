@@ -20,6 +20,7 @@ use crate::requests::held_request;
 use crate::retransmissions::{next_due, remove_over, tick_requests};
 use sip_held_dialogs::DialogId;
 use sip_message::{Id, Key, Message, RAck};
+use sip_same::{SameValue, are_same};
 use sip_text::Boxed;
 use sip_user::CallOut;
 use std::alloc::{AllocError, Global};
@@ -187,6 +188,20 @@ impl HeldRequests {
             }
         }
         Ok(())
+    }
+}
+
+impl SameValue for HeldRequests {
+    // However they are held: that depends on how many there were before.
+    fn is_same(&self, other: &HeldRequests) -> bool {
+        match (&self.held, &other.held) {
+            (Held::Few(requests), Held::Few(others)) => {
+                are_same(requests.as_slice(), others.as_slice())
+            }
+            (Held::Few(requests), Held::Many(others)) => others.get().are(requests.as_slice()),
+            (Held::Many(requests), Held::Few(others)) => requests.get().are(others.as_slice()),
+            (Held::Many(requests), Held::Many(others)) => requests.get().is_same(others.get()),
+        }
     }
 }
 

@@ -1,6 +1,6 @@
 //! Many held requests, found by maps.
 
-ghost use Rattle.std.specs.Prelude.{◌≡◌, ◌≤◌, ◌^◌, ◌++◌, [], ◌∷◌, ℕ, Option, None, IfOk, OnOk, cond, filter, find, length, map, nat_lt, not};
+ghost use Rattle.std.specs.Prelude.{◌≡◌, ◌↔◌, IsTrue, ◌≤◌, ◌^◌, ◌++◌, [], ◌∷◌, ℕ, Option, None, IfOk, OnOk, cond, filter, find, length, map, nat_lt, not};
 ghost use Rattle.std.specs.List.{flat_map, list_any};
 ghost use Rattle.std.specs.Option.{option_and_then, option_copied};
 ghost use Rattle.std.specs.BTreeMap.{IsOrdered, is_at};
@@ -26,6 +26,7 @@ use crate::request_keys::{AckKey, PrackKey, ack_key, branch_key, merge_key, prac
 use crate::retransmissions::{is_kept, request_due, tick_request};
 use sip_held_dialogs::DialogId;
 use sip_message::{Id, Key, Message, RAck};
+use sip_same::{SameValue, are_values, have_same_values};
 use sip_timers::Schedule;
 use sip_user::CallOut;
 use std::alloc::{AllocError, Global};
@@ -58,6 +59,13 @@ impl Model for IndexedRequests {
     ghost view = { λ all. values_of all.requests.entries };
 
     ghost invariant = { IsIndexed };
+}
+
+impl SameValue for IndexedRequests {
+    // The numbers may differ: they depend on how many requests there were before.
+    fn is_same(&self, other: &IndexedRequests) -> bool {
+        have_same_values(&self.requests, &other.requests)
+    }
 }
 
 impl IndexedRequests {
@@ -93,6 +101,13 @@ impl IndexedRequests {
         ensures { result ≡ not (nat_lt 0 (length self.now)) }
     {
         self.requests.is_empty()
+    }
+
+    /// Whether these are the held requests, in their order.
+    pub(crate) fn are(&self, requests: &[HeldRequest]) -> bool
+        ensures { IsTrue result ↔ (self.now ≡ requests.now) }
+    {
+        are_values(&self.requests, requests)
     }
 
     /// The first moment, in ms, at which something of a request is due, if there is one.

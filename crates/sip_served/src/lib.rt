@@ -17,6 +17,7 @@ mod request_keys;
 mod requests;
 mod respond;
 mod retransmissions;
+mod same_requests;
 mod served;
 mod server_side;
 mod unsupported;

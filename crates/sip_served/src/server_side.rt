@@ -33,6 +33,7 @@ use sip_held_dialogs::dialogs::{dialog_of_request, end, end_early, visit};
 use sip_held_dialogs::request::{dialog_id_of, has_to_tag, is_bye, is_cancel, is_prack, own_tag};
 use sip_held_dialogs::{DialogId, DialogReference, Dialogs};
 use sip_message::{Addr, CallId, Id, Message, Token};
+use sip_same::{SameValue, are_same_maps};
 use sip_text::Boxed;
 use sip_transactions::{Command, Up, UpKind};
 use sip_user::outputs::{joined, one, refused, tell};
@@ -61,6 +62,14 @@ impl Model for ServerSide {
       requests = h.requests;
       dialogs = h.dialogs.entries;
     } };
+}
+
+impl SameValue for ServerSide {
+    fn is_same(&self, other: &ServerSide) -> bool {
+        self.local.is_same(&other.local)
+            && self.requests.is_same(&other.requests)
+            && are_same_maps(&self.dialogs, &other.dialogs)
+    }
 }
 
 impl ServerSide {

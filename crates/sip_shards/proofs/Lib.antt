@@ -4,6 +4,7 @@ pub mod Cutting
 pub mod IdleShards
 pub mod Numbered
 pub mod Pieces
+pub mod SameShards
 pub mod Piled
 pub mod Together
 pub mod Transferred

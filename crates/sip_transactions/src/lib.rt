@@ -10,6 +10,7 @@ mod matching;
 mod output;
 mod rows;
 mod said;
+mod same_lives;
 mod shard;
 mod state;
 mod step;

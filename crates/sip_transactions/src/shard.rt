@@ -15,7 +15,7 @@ use crate::machine::Transactions;
 use crate::matching::keyed_input;
 use crate::output::{DropReason, Out};
 use crate::state::State;
-use keyed_machine::{Item, KeyShard, PhaseOutputs, ShardFault, Table};
+use keyed_machine::{ComparableShard, Item, KeyShard, PhaseOutputs, ShardFault, Table};
 use seeded_hash::HashSeed;
 use sip_message::{Addr, Id, Message, SharedKey};
 use std::alloc::{AllocError, Global};
@@ -222,6 +222,12 @@ impl KeyShard for Shard {
             table,
         } = self;
         table.into_states()
+    }
+}
+
+impl ComparableShard for Shard {
+    fn holds_the_same(&self, other: &Shard) -> bool {
+        self.table.holds_the_same(&Transactions, &other.table)
     }
 }
 

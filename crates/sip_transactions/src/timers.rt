@@ -5,6 +5,7 @@ ghost use Rattle.sip_timers.specs.Queue.{is_due};
 ghost use Rattle.sip_transactions.specs.Timers.{interval, rearmed, first_due, IsTimely};
 
 use crate::step::{Due, Pace};
+use sip_same::SameValue;
 use sip_timers::{LIFETIME, T1, earlier};
 use std::marker::Model;
 
@@ -110,6 +111,14 @@ impl Timers {
             fired,
             ending: self.ending,
         }
+    }
+}
+
+impl SameValue for Timers {
+    fn is_same(&self, other: &Timers) -> bool {
+        self.repeat.is_same(&other.repeat)
+            && self.fired == other.fired
+            && self.ending.is_same(&other.ending)
     }
 }
 

@@ -1,0 +1,4 @@
+pub mod SameKeys
+pub mod SameMaps
+pub mod SameParameters
+pub mod SameRests
