@@ -46,4 +46,4 @@ returns-then-asks_stream-clause-stream_only g c = λ asks.
     (subst (λ reader. IfErr c.stream_by-end.result
     (λ fault. IfSome (g.R.Read.remaining reader.now)
     (ComesOnly c.kind_asked-kind.result fault)))
-    c.new-input-2.ensures c.stream_by-end.ensures.only)
+    c.new-input-then-asks_stream.ensures c.stream_by-end.ensures.only)
