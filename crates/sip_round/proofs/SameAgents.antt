@@ -1,5 +1,5 @@
 -- Agents that hold the same stand for the same rounds.
-use Rattle.std.proofs.Common.{◌≡◌, ◌<◌, ℕ, zero, List, length, map, sym, ◌∙◌, ap, subst}
+use Rattle.std.proofs.Common.{◌≡◌, ℕ, zero, List, length, sym, ◌∙◌, ap, subst}
 use Rattle.std.specs.Prelude.{Some}
 use Rattle.std.specs.Option.{option_map_or}
 use Rattle.std.proofs.lemmas.List.Elements.{length_all_zip}

@@ -1,5 +1,5 @@
 -- `Agent::holds_the_same`: the two agents stand for the same rounds.
-use Rattle.std.proofs.Common.{◌≡◌, Some, ap, sym, subst, ◌∙◌}
+use Rattle.std.proofs.Common.{ap, sym, subst, ◌∙◌}
 use Rattle.keyed_machine.specs.Laws.{ShardsHoldApart}
 use Rattle.keyed_machine.specs.Machine.{tick_at}
 use Rattle.sip_calls.specs.Call.{call_machine}
