@@ -24,6 +24,7 @@ import socket
 from dataclasses import dataclass
 from secrets import token_hex
 from typing import (
+    Any,
     AsyncIterator,
     Callable,
     Dict,
@@ -151,7 +152,7 @@ class Ended:
 class IncomingRequest:
     """A request of the peer: one in a call, such as INFO or a re-INVITE, or one outside of calls.
     `method` is its method, `message` has its headers and its body. `respond` answers it;
-    `is_answered` says whether it has its final response."""
+    `is_answered` says whether it has its final response. If its call ends first, it gets a 487."""
 
     def __init__(self, agent: "UserAgent", notice: RequestNotice, message: Message):
         self.method = notice.method
@@ -275,6 +276,8 @@ class Call:
         self._authenticator = agent.authenticator()
         self._answer: Optional[Message] = None
         self._bye: Optional[Message] = None
+        # The peer's requests that the user has to answer.
+        self._open_requests: List[IncomingRequest] = []
         # An INVITE of our own waits for its final response; the peer's last re-INVITE.
         self._is_inviting = False
         self._reinvite: Optional[IncomingRequest] = None
@@ -316,7 +319,9 @@ class Call:
 
     async def request(self, method: str, body: bytes = b"", headers: Headers = ()) -> FinalResponse:
         """Sends a request in the call, such as INFO or a re-INVITE, and returns its final response.
-        481 and 408 end the call (RFC 3261, section 12.2.1.2)."""
+        481 and 408 end the call (RFC 3261, section 12.2.1.2). If the call ends first, the request
+        is given up, and this returns 481. A peer may answer a re-INVITE by a 100 alone: bound that
+        by `asyncio.wait_for`."""
         if self._tags is None or not self.is_up:
             return FinalResponse(481, "Call/Transaction Does Not Exist")
         call_id, tags = self.call_id, self._tags
@@ -326,7 +331,9 @@ class Call:
 
         is_invite = method == "INVITE"
         self._is_inviting = self._is_inviting or is_invite
-        exchange = self._agent.exchange(request, self._authenticator, method, self._target)
+        exchange = self._agent.exchange(
+            request, self._authenticator, method, self._target, self._end
+        )
         try:
             response = await exchange
         finally:
@@ -392,6 +399,8 @@ class Call:
         self._end.set_result(end)
         if not self._is_settled.done():
             self._is_settled.set_result(None)
+        for request in self._open_requests:
+            request.respond(487, "Request Terminated")
         if self._reinvite is not None:
             self._reinvite.end()
         self._events.end(end)
@@ -416,7 +425,13 @@ class Call:
         elif notice.method == "INVITE":
             self._take_reinvite(request)
         else:
-            self._events.put(request)
+            self._give(request)
+
+    def _give(self, request: IncomingRequest) -> None:
+        """Gives a request to the user, who has to answer it."""
+        self._open_requests = [it for it in self._open_requests if not it.is_answered]
+        self._open_requests.append(request)
+        self._events.put(request)
 
     def _take_reinvite(self, request: IncomingRequest) -> None:
         """A re-INVITE of the peer. One that crosses an INVITE of our own is refused, and one before
@@ -428,7 +443,7 @@ class Call:
             request.respond(500, "Server Internal Error", headers=headers)
         else:
             self._reinvite = request
-            self._events.put(request)
+            self._give(request)
 
     def dialog_ended(self, tags: Tuple[str, str]) -> None:
         """For this module: a dialog of this call has ended."""
@@ -746,7 +761,7 @@ class UserAgent:
 
     async def close(self, patience_s: float = CLOSE_S) -> None:
         """Ends all calls: 480 to those that nobody answered, else CANCEL or BYE. Waits for their
-        ends, at most so many seconds, and closes the endpoint."""
+        ends and for the responses to requests, at most so many seconds, and closes the endpoint."""
         if self.endpoint.is_closed:
             return
         self._is_closing = True
@@ -838,13 +853,15 @@ class UserAgent:
         authenticator: Optional[Authenticator],
         method: str,
         uri: str,
+        end: "Optional[asyncio.Future[Ended]]" = None,
     ) -> FinalResponse:
         """For these modules: sends a request, which is made with the headers that authenticate it,
-        and answers challenges. Returns the final response."""
+        and answers challenges. Returns the final response, or 481 if its call ends first."""
         statuses: List[int] = []
         while True:
             headers = authenticator.headers(method, uri) if authenticator is not None else []
-            response = await self._final_response(self.ask(request(headers)))
+            command = request(headers)
+            response = await self._final_response(command, self.ask(command), end)
             is_again = response.status in statuses
             statuses.append(response.status)
             if len(statuses) > MOST_ANSWERS or not takes_challenge(
@@ -852,8 +869,10 @@ class UserAgent:
             ):
                 return response
 
-    async def _final_response(self, asked: Id) -> FinalResponse:
-        """Waits for the final response to a request."""
+    async def _final_response(
+        self, command: Command, asked: Id, end: "Optional[asyncio.Future[Ended]]"
+    ) -> FinalResponse:
+        """Waits for the final response to a request, which is given up if its call ends first."""
         response: "asyncio.Future[FinalResponse]" = asyncio.get_running_loop().create_future()
 
         def told(notice: Notice) -> None:
@@ -865,10 +884,17 @@ class UserAgent:
 
         self.handle(asked, told)
         self._responses.add(response)
+        waits_for: "List[asyncio.Future[Any]]" = [response] if end is None else [response, end]
         try:
-            return await response
+            await asyncio.wait(waits_for, return_when=asyncio.FIRST_COMPLETED)
         finally:
+            self.forget(asked)
             self._responses.discard(response)
+        if response.done():
+            return response.result()
+        if not self.endpoint.is_closed:
+            self.ask(AbandonRequest(command.call_id, asked))
+        return FinalResponse(481, "Call/Transaction Does Not Exist")
 
     # -- notices
 

@@ -122,6 +122,19 @@ class CallsTest(unittest.IsolatedAsyncioTestCase):
         # The iterator of a call that has ended gives its end.
         self.assertEqual(await soon(events_of(outgoing)), [end])
 
+    async def test_requests_that_are_open_at_the_end(self) -> None:
+        """A request of ours is given up then, and one of the peer gets a 487."""
+        outgoing, incoming = await self.up()
+        told = asyncio.ensure_future(events_of(incoming))
+        await asyncio.sleep(0)
+        asked = asyncio.ensure_future(outgoing.request("INVITE", OFFER))
+        await asyncio.sleep(0.2)
+        incoming.hang_up()
+        self.assertIn((await soon(asked)).status, (481, 487))
+        requests = [it for it in await soon(told) if isinstance(it, IncomingRequest)]
+        self.assertEqual([(it.method, it.is_answered) for it in requests], [("INVITE", True)])
+        await soon(until(lambda: not (self.one.calls or self.two.calls)))
+
     async def test_the_bye_of_the_callee_waits_for_the_ack(self) -> None:
         outgoing, incoming = await self.ringing()
         told = asyncio.gather(events_of(outgoing), events_of(incoming))
