@@ -1,6 +1,7 @@
 //! The program `ua` without its process: its words, its faults and their statuses.
 #![tactic(auto)]
 
+mod compacting;
 mod data_file;
 mod failure;
 mod host;

@@ -1,17 +1,18 @@
-//! What `ua listen`, `ua call` and `ua agent` do.
+//! What `ua listen`, `ua call` and `ua agent` do; `ua compact` does it in a file of its own.
 
 ghost use Rattle.std.specs.Prelude.{◌≡◌, IfOk, IfSome};
 ghost use Rattle.std.specs.List.{list_all};
 ghost use Rattle.sip_message.specs.Addr.{addr_text};
 ghost use Rattle.sip_program.specs.Scheme.{is_scheme, is_scheme_byte};
 
+use crate::compacting::compact_by;
 use crate::data_file::DataFile;
 use crate::failure::{Cause, Failure};
 use crate::host::Host;
 use crate::talk_fault::TalkFault;
 use crate::words::{
     AgentWords, CallWords, JournalWords, LengthWords, ListenWords, OwnWords, agent_words,
-    call_words, listen_words,
+    call_words, compact_words, listen_words,
 };
 use clap::ArgMatches;
 use sip_applications::{AnswerBody, CallPlan, ListenPlan, agent, call_from, listen_at};
@@ -27,7 +28,8 @@ use std::rt::Files;
 use std::sync::Arc;
 use std::thread::Threads;
 
-/// Listens, calls, or does what a pipe says, as the words ask for. Notices go to `stream`.
+/// Listens, calls, does what a pipe says, or compacts a journal, as the words ask for. Notices go to
+/// `stream`.
 pub(crate) fn talk_by<'a, T: Threads + Host, N: Write + Send + Drop + 'static, E: Write>(
     rt: &T,
     alloc: Global,
@@ -40,6 +42,9 @@ pub(crate) fn talk_by<'a, T: Threads + Host, N: Write + Send + Drop + 'static, E
     }
     if let Some(words) = call_words(matches) {
         return call_by(rt, alloc, words, stream, errors);
+    }
+    if let Some(words) = compact_words(matches) {
+        return compact_by(rt, alloc, words, errors);
     }
     match agent_words(matches) {
         Some(words) => agent_by(rt, alloc, words, stream, errors),
@@ -410,8 +415,8 @@ fn record_at<'a, T: Files>(
     }
 }
 
-// The failure for the file of an option.
-fn bad_file<'a>(fault: UaFault, option: &'a str, path: &'a str, error: io::Error) -> Failure<'a> {
+/// The failure for the file of an option.
+pub(crate) fn bad_file<'a>(fault: UaFault, option: &'a str, path: &'a str, error: io::Error) -> Failure<'a> {
     Failure::new(
         TalkFault::Ua(fault),
         Cause::File {
@@ -422,8 +427,8 @@ fn bad_file<'a>(fault: UaFault, option: &'a str, path: &'a str, error: io::Error
     )
 }
 
-// The failure for an option whose word isn't what it has to be.
-fn bad_word<'a>(option: &'a str, word: &'a str, wanted: &'a str) -> Failure<'a> {
+/// The failure for an option whose word isn't what it has to be.
+pub(crate) fn bad_word<'a>(option: &'a str, word: &'a str, wanted: &'a str) -> Failure<'a> {
     Failure::new(
         TalkFault::BadArgument,
         Cause::Word {

@@ -182,6 +182,13 @@ pub(crate) struct AgentWords<'a> {
     pub tells_ids: bool,
 }
 
+/// The words of `ua compact`, as they were given.
+#[derive(Clone, Copy)]
+pub(crate) struct CompactWords<'a> {
+    pub journal: &'a str,
+    pub into: &'a str,
+}
+
 /// The words of the command line, without the program's own name.
 ///
 /// # Errors
@@ -341,6 +348,7 @@ fn commands<'a>(alloc: Global) -> Result<Vec<Command<'a>>, AllocError> {
     commands.push(listen_command(alloc)?)?;
     commands.push(call_command(alloc)?)?;
     commands.push(agent_command(alloc)?)?;
+    commands.push(compact_command(alloc)?)?;
     Ok(commands)
 }
 
@@ -418,6 +426,15 @@ pub(crate) fn call_words<'a>(matches: &ArgMatches<'a>) -> Option<CallWords<'a>> 
         leaves: call.get_flag("leave"),
         must_answer: call.get_flag("must-answer"),
         drops: call.get_flag("drops"),
+    })
+}
+
+/// The words of `ua compact`, if they ask for it.
+pub(crate) fn compact_words<'a>(matches: &ArgMatches<'a>) -> Option<CompactWords<'a>> {
+    let compact = matches.subcommand_matches("compact")?;
+    Some(CompactWords {
+        journal: compact.get_str("journal")?,
+        into: compact.get_str("into")?,
     })
 }
 
@@ -721,6 +738,26 @@ fn ids_argument<'a>(alloc: Global) -> Arg<'a> {
             "Print a line `asked ID` for each command, before the notices of its round. Lines that \
             are no command have none, but a message on standard error",
         )
+}
+
+fn compact_command<'a>(alloc: Global) -> Result<Command<'a>, AllocError> {
+    let journal = Arg::new(alloc, "journal")
+        .long("journal")
+        .value_name("FILE")
+        .required(true)
+        .help("A journal of `ua` that no process has");
+    let into = Arg::new(alloc, "into")
+        .long("into")
+        .value_name("NEW")
+        .required(true)
+        .help("The shorter journal, a new file");
+    Command::new(alloc, "compact")
+        .about(
+            "Writes a shorter journal, by which `ua` goes on as by the whole one: without the \
+            calls of which nothing is held. Checks that an agent that runs it holds the same; if \
+            not, it writes the whole journal",
+        )
+        .args(vec![in alloc; journal, into]?)
 }
 
 fn session_argument<'a>(alloc: Global) -> Arg<'a> {
