@@ -9,5 +9,6 @@ mod streamed_replay;
 mod streaming;
 
 pub use resumed_agent::resumed_by;
+pub use round_reader::RoundReader;
 pub use stream_fault::StreamFault;
 pub use streamed_replay::replay_streamed;
