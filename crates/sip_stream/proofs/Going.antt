@@ -1,6 +1,6 @@
 -- A replay round by round in the middle of its file, and how it ends.
 use Rattle.std.proofs.Common.{◌≡◌, ◌≢◌, ℕ, ◌+◌, ◌-◌, ◌≤◌, ◌^◌, Bool, eqb, false, eq-eqb, true≢false, List, [], ◌∷◌, ◌++◌, length, length-append, codes, refl, sym, ap, subst, ◌∙◌, append_assoc, append-nil, arith, inl, inr}
-use Rattle.std.specs.Prelude.{IfErr, IfSome, IsTrue, OnErr, Option, None, Some, Result, Ok, Err, ◌⊎◌}
+use Rattle.std.specs.Prelude.{IfSome, IsTrue, Option, None, Some, Result, Ok, Err, ◌⊎◌}
 use Rattle.std.specs.Io.KnownBytes.{Appends, Consumes, IsAtEnd, prepend_known}
 use Rattle.std.proofs.KnownBytes.{Appends-nil, Appends-trans, Consumes-trans, Consumes-whole, prepend_known-nil}
 use Rattle.sip_files.specs.Counted.{Counts}
@@ -15,10 +15,11 @@ use Rattle.sip_files.proofs.FileLines.{first_line}
 use Rattle.sip_files.proofs.Streams.{counts_both, counts_none}
 use Rattle.sip_journal.specs.Rounds.{first_round, some_config}
 use Rattle.sip_round.specs.AgentState.{AgentState}
+use Rattle.sip_round.specs.Answers.{StandsFor}
 use Rattle.sip_round.specs.declared.config.Config.{Config}
 use Rattle.sip_round.specs.declared.round.Round.{Round}
 use Rattle.sip_stream.specs.Steps.{Ends, GoesOn, SoFar, Stands, Stops, StopsAt, TellsHead, TellsRound, TellsStep}
-use Rattle.sip_stream.specs.Streams.{Begins, IsNext, IsRounds, StreamsAll, StreamsFront, TellsStream, WritesBefore, WritesFirst, failed_reads, failed_writes}
+use Rattle.sip_stream.specs.Streams.{Begins, IsNext, IsRounds, StandsForFile, StreamsAll, StreamsFront, TellsStream, WritesBefore, WritesFirst, failed_reads, failed_writes}
 use Rattle.sip_stream.specs.declared.stream_fault.StreamFault.{StreamFault}
 use Rattle.sip_stream.specs.declared.stream_fault.StreamFault.TheVariants as fault
 use Rattle.sip_stream.proofs.Chunks.{rounds_follow}
@@ -370,6 +371,25 @@ module _ {C : Type 0} (shard_of : C → List ℕ → ℕ → ℕ) (kind : FileKi
           all_flushed = s.all_flushed;
         }
 
+    -- the agent stands for all of it
+    pub stands_for_file : (agent_now : AgentState C) (next : Option (List ℕ)) (lines : List ℕ)
+        → agent_now ≡ agent → Consumes pending next lines → lines ≡ [] → IsAtEnd next
+        → IfSome input (StandsForFile shard_of kind agent_now)
+    stands_for_file agent_now next lines same consumed none ended =
+        let file : s.file ++ lines ≡ s.file =
+        ap (λ (l : List ℕ). s.file ++ l) none ∙ append-nil s.file in
+        Consumes-whole input next s.file (StandsForFile shard_of kind agent_now)
+        (subst (λ (f : List ℕ). Consumes input next f) file
+        (Consumes-trans input pending next s.file lines s.consumed consumed)) ended
+        (record {
+          config = s.config;
+          rounds = s.rounds;
+          spelled = s.spelled;
+          unrefused = (s.stands).unrefused;
+          stands = subst (λ a. StandsFor shard_of a s.config s.rounds) (sym same)
+              (s.stands).stands;
+        })
+
     -- ---- the next round
 
     module _ (next : Option (List ℕ)) (lines : List ℕ) (now : Option ℕ)
@@ -593,37 +613,3 @@ module _ {C : Type 0} (shard_of : C → List ℕ → ℕ → ℕ) (kind : FileKi
               (counts_at reads now 0 (failed_reads given) (sym (step_failed given told)) reads_on)
               (counts_on writes writes_now written_now (failed_writes given) s.writes
               counts_writes)
-
--- ---- what is told
-
-module _ {T : Type 0} (kind : FileKind) (input before after : Option (List ℕ))
-    (result : Result T StreamFault) where
-  pub told : (P : StreamFault → List ℕ → Type 0)
-      → ((given : StreamFault) (whole : List ℕ) → StopsAt kind given before after whole
-      → P given whole)
-      → IfErr result (λ given. IfSome input (StopsAt kind given before after))
-      → IfErr result (λ given. IfSome input (P given))
-  told P gives stops = by_result result stops
-    where
-      by_known : (known : Option (List ℕ)) (given : StreamFault)
-          → IfSome known (StopsAt kind given before after) → IfSome known (P given)
-      by_known None given s = tt
-      by_known (Some whole) given s = gives given whole s
-
-      by_result : (r : Result T StreamFault)
-          → IfErr r (λ given. IfSome input (StopsAt kind given before after))
-          → IfErr r (λ given. IfSome input (P given))
-      by_result (Ok value) s = tt
-      by_result (Err given) s = by_known input given s
-
-  pub front_told : IfErr result (λ given. IfSome input (StopsAt kind given before after))
-      → OnErr result (IfSome input (StreamsFront kind before after))
-  front_told stops =
-      by_result result
-      (told (λ given. StreamsFront kind before after) (λ given whole s. s.front) stops)
-    where
-      by_result : (r : Result T StreamFault)
-          → IfErr r (λ given. IfSome input (StreamsFront kind before after))
-          → OnErr r (IfSome input (StreamsFront kind before after))
-      by_result (Ok value) front = front
-      by_result (Err given) front = front

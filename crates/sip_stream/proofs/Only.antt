@@ -1,6 +1,6 @@
 -- Of an input that is a file of its kind, each round is one, so that only some faults come.
 use Rattle.std.proofs.Common.{◌≡◌, ℕ, ◌<◌, ◌≤◌, ◌^◌, suc, true, false, List, [], ◌∷◌, ◌++◌, length, map, Option, Some, None, refl, sym, ap, subst, ◌∙◌, append_assoc, append-nil, length-append, arith, inl, inr}
-use Rattle.std.specs.Prelude.{IsTrue}
+use Rattle.std.specs.Prelude.{IfSome, IsTrue, Option, None, Some}
 use Rattle.std.specs.List.{AllZip}
 use Rattle.std.proofs.lemmas.List.{append_cancel_left}
 use Rattle.sip_files.specs.EventFile.{SpellsFile, SpellsIn, head_lines, is_of_kind, version_line, with_ends}
@@ -25,6 +25,7 @@ use Rattle.sip_round.specs.Answers.{refused, refused_from, refused_or}
 use Rattle.sip_round.specs.declared.config.Config.{Config}
 use Rattle.sip_round.specs.declared.round.Round.{Round}
 use Rattle.sip_round.specs.declared.round_fault.RoundFault.{RoundFault}
+use Rattle.sip_stream.specs.Steps.{StopsAt}
 use Rattle.sip_stream.specs.Streams.{Begins, ComesOnly, HasBadHead, HasBadRound, IsRounds, IsStream, HasRefused, TellsLines, TellsStream, behind_head}
 use Rattle.sip_stream.specs.declared.stream_fault.StreamFault.{StreamFault}
 use Rattle.sip_stream.specs.declared.stream_fault.StreamFault.TheVariants as fault
@@ -311,3 +312,9 @@ comes_only kind (fault.Round index given) input tells = λ config rounds s.
     refuses kind config rounds input s index given tells
 comes_only kind fault.Output input tells = λ config rounds s. tt
 comes_only kind fault.NoMemory input tells = λ config rounds s. tt
+
+-- the same of an input that may be known
+pub only_known : (kind : FileKind) (given : StreamFault) (input before after : Option (List ℕ))
+    → IfSome input (StopsAt kind given before after) → IfSome input (ComesOnly kind given)
+only_known kind given None before after s = tt
+only_known kind given (Some whole) before after s = comes_only kind given whole s.tells

@@ -11,7 +11,8 @@ use Rattle.sip_files.specs.declared.version.Version.{Version}
 use Rattle.sip_journal.specs.Rounds.{begins_round, first_round, some_config}
 use Rattle.sip_journal.specs.declared.lines_fault.LinesFault.{LinesFault}
 use Rattle.sip_journal.specs.declared.lines_fault.LinesFault.TheVariants as lines_fault
-use Rattle.sip_round.specs.Answers.{refused}
+use Rattle.sip_round.specs.AgentState.{AgentState}
+use Rattle.sip_round.specs.Answers.{StandsFor, refused}
 use Rattle.sip_round.specs.declared.config.Config.{Config}
 use Rattle.sip_round.specs.declared.round.Round.{Round}
 use Rattle.sip_round.specs.declared.round_fault.RoundFault.{RoundFault}
@@ -64,6 +65,16 @@ pub record Streams (kind : FileKind) (input output : List ℕ) : Type 0 where
   pub spelled : SpellsFile kind config rounds input
   pub unrefused : refused config rounds ≡ None
   pub answered : output ≡ answer_file config rounds
+
+-- the input is a file of the kind, of any length; none of its rounds is refused, and the agent
+-- stands for them
+pub record StandsForFile {C : Type 0} (shard_of : C → List ℕ → ℕ → ℕ) (kind : FileKind)
+    (agent : AgentState C) (input : List ℕ) : Type 0 where
+  pub config : Config
+  pub rounds : List Round
+  pub spelled : SpellsFile kind config rounds input
+  pub unrefused : refused config rounds ≡ None
+  pub stands : StandsFor shard_of agent config rounds
 
 -- a front of the output file of rounds with which the input begins
 pub record IsFront (kind : FileKind) (input front : List ℕ) : Type 0 where

@@ -21,15 +21,15 @@ const TOO_MANY: usize = MAX_EVENTS + 1;
 /// The beginning of a line that begins a round.
 const ROUND: &[u8] = b"round ";
 
-/// What was read and not given yet.
+/// What was read of a file and not given yet.
 #[derive(Drop)]
-pub(crate) struct RoundReader {
+pub struct RoundReader {
     text: Vec<u8>,
 }
 
 impl RoundReader {
     /// Nothing was read yet.
-    pub(crate) fn new(alloc: Global) -> RoundReader
+    pub fn new(alloc: Global) -> RoundReader
         ensures { result.text.items ≡ [] }
     {
         RoundReader {
@@ -43,10 +43,7 @@ impl RoundReader {
     /// # Errors
     ///
     /// `Input` or `NoMemory`.
-    pub(crate) fn next_lines<R: CountedRead>(
-        &mut self,
-        reader: &mut R,
-    ) -> Result<Vec<u8>, StreamFault>
+    pub fn next_lines<R: CountedRead>(&mut self, reader: &mut R) -> Result<Vec<u8>, StreamFault>
         ensures given { IfOk result (λ lines.
             Consumes (prepend_known self.old.text.items (R.remaining reader.old))
             (prepend_known self.new.text.items (R.remaining reader.new)) lines.items) }

@@ -4,7 +4,7 @@ ghost use Rattle.std.specs.Prelude.{◌<◌, ◌≤◌, ◌^◌, [], IfErr, IfOk
 ghost use Rattle.sip_files.specs.Counted.{Counts};
 ghost use Rattle.sip_files.specs.EventFile.{SpellsFile};
 ghost use Rattle.sip_stream.specs.Steps.{Ends, TellsHead};
-ghost use Rattle.sip_stream.specs.Streams.{ComesOnly, StreamsAll, StreamsFront, TellsStream, WritesBefore, input_failures, output_failures};
+ghost use Rattle.sip_stream.specs.Streams.{ComesOnly, StandsForFile, StreamsAll, StreamsFront, TellsStream, WritesBefore, input_failures, output_failures};
 
 use crate::round_reader::RoundReader;
 use crate::round_text::{head_like, read_round};
@@ -12,7 +12,7 @@ use crate::stream_fault::StreamFault;
 use crate::streaming::{OUTPUTS_HEAD, Streaming};
 use sip_files::{CountedRead, CountedWrite, EventsFault, FileKind, read_file, write_whole};
 use sip_message::Cut;
-use sip_round::{Config, Gate};
+use sip_round::{Agent, Config, Gate};
 use std::alloc::Global;
 use std::thread::Threads;
 
@@ -26,6 +26,7 @@ use std::thread::Threads;
 /// The first fault that comes. `Input` at the first read that fails. `Output` at the first write
 /// that fails or takes nothing, or at a flush that fails. Neither device is asked again. What was
 /// written before is a front of the output file of the rounds that were read.
+#[tactic(auto, using(crate::proofs::Only::only_known))]
 pub fn replay_streamed<T: Threads + Sync, R: CountedRead, W: CountedWrite, C: Cut + Drop, G: Gate>(
     rt: &T,
     alloc: Global,
@@ -56,11 +57,14 @@ pub fn replay_streamed<T: Threads + Sync, R: CountedRead, W: CountedWrite, C: Cu
         (output_failures result) }
     ensures flushed { OnOk result (IfSome (W.flushed writer.new) (λ all. IsTrue all)) }
 {
-    stream(rt, alloc, kind, reader, writer, shards, workers, cut, gate)
+    match stream(rt, alloc, kind, reader, writer, shards, workers, cut, gate) {
+        Ok(_) => Ok(()),
+        Err(fault) => Err(fault),
+    }
 }
 
-// The head, and then one round after the other.
-fn stream<T: Threads + Sync, R: CountedRead, W: CountedWrite, C: Cut + Drop, G: Gate>(
+/// The head, and then one round after the other. Gives the agent that ran them.
+pub(crate) fn stream<T: Threads + Sync, R: CountedRead, W: CountedWrite, C: Cut + Drop, G: Gate>(
     rt: &T,
     alloc: Global,
     kind: FileKind,
@@ -70,12 +74,14 @@ fn stream<T: Threads + Sync, R: CountedRead, W: CountedWrite, C: Cut + Drop, G: 
     workers: usize,
     cut: C,
     gate: &G,
-) -> Result<(), StreamFault>
+) -> Result<Agent<C>, StreamFault>
     requires some_shard { 0 < shards }
     requires most_shards { shards ≤ 256 }
     requires some_worker { 0 < workers }
     requires most_workers { workers ≤ 64 }
-    ensures { Ends kind (R.remaining reader.old) (W.contents writer.old) (W.contents writer.new)
+    ensures stands { IfOk result (λ agent. IfSome (R.remaining reader.old)
+        (StandsForFile C.shard_of kind agent)) }
+    ensures ends { Ends kind (R.remaining reader.old) (W.contents writer.old) (W.contents writer.new)
         (R.failures reader.old) (R.failures reader.new) (W.failures writer.old)
         (W.failures writer.new) (W.flushed writer.new) result }
 {
@@ -90,7 +96,7 @@ fn stream<T: Threads + Sync, R: CountedRead, W: CountedWrite, C: Cut + Drop, G: 
     for _ in 0..u64::MAX {
         let lines = input.next_lines(reader)?;
         if lines.is_empty() {
-            return Ok(());
+            return Ok(streaming.into_agent());
         }
         let round = read_round(alloc, kind, &head, streaming.index(), &lines)?;
         streaming.run(rt, &round, writer, gate)?;

@@ -71,6 +71,13 @@ impl<C: Cut + Drop> Streaming<C> {
         self.agent.next_round().saturating_sub(self.first)
     }
 
+    /// The agent after the rounds that were run.
+    pub(crate) fn into_agent(self) -> Agent<C>
+        ensures { result ≡ self.agent }
+    {
+        self.agent
+    }
+
     /// Runs a round, writes its outputs, and flushes.
     ///
     /// # Errors

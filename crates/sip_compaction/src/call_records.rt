@@ -1,0 +1,194 @@
+//! What the rounds of a journal leave open of each call.
+
+use crate::call_record::CallRecord;
+use sip_message::Id;
+use sip_reader::header_values;
+use sip_round::{Event, Output, Round};
+use sip_text::Text;
+use sip_user::Notice;
+use std::alloc::{AllocError, Global};
+use std::collections::{BTreeMap, BTreeSet};
+
+/// The header of the Call-ID (RFC 3261, section 20.8).
+const CALL_ID: &[u8] = b"Call-ID";
+
+/// How many calls are recorded at least before those that ended are looked for.
+const FEW: usize = 1024;
+
+/// The records of the calls of which something may be held, by their Call-IDs.
+#[derive(Drop)]
+pub(crate) struct CallRecords {
+    alloc: Global,
+    calls: BTreeMap<Text, CallRecord>,
+    // At how many calls those that ended are looked for again.
+    many: usize,
+}
+
+impl CallRecords {
+    /// None.
+    pub(crate) fn new(alloc: Global) -> CallRecords {
+        CallRecords {
+            alloc,
+            calls: BTreeMap::new(alloc),
+            many: FEW,
+        }
+    }
+
+    /// The round with this number had these outputs.
+    ///
+    /// # Errors
+    ///
+    /// Memory ran out.
+    pub(crate) fn take_round(
+        &mut self,
+        number: u64,
+        round: &Round,
+        outputs: Vec<Output>,
+    ) -> Result<(), AllocError> {
+        let refused = refused_places(self.alloc, &outputs)?;
+        let mut id = Id {
+            round: number,
+            place: 0,
+        };
+        for event in round.events.as_slice() {
+            id.place = id.place.saturating_add(1);
+            let is_refused = refused.contains(&id.place);
+            self.take_event(id, round.moment, event, is_refused)?;
+        }
+        self.take_notices(number, round.moment, outputs)?;
+        if self.calls.len() >= self.many {
+            self.forget(round.moment);
+            self.many = self.calls.len().saturating_mul(2).max(FEW);
+        }
+        Ok(())
+    }
+
+    fn take_event(
+        &mut self,
+        id: Id,
+        moment: u64,
+        event: &Event,
+        is_refused: bool,
+    ) -> Result<(), AllocError> {
+        let Some(call_id) = call_id_of(self.alloc, event)? else {
+            return Ok(());
+        };
+        let record = self.record_of(call_id, id.round, moment)?;
+        match event {
+            Event::Command(command) if !is_refused => record.take_command(id, command),
+            _ => Ok(()),
+        }
+    }
+
+    fn take_notices(
+        &mut self,
+        number: u64,
+        moment: u64,
+        outputs: Vec<Output>,
+    ) -> Result<(), AllocError> {
+        for output in outputs {
+            if let Output::Notice(notice) = output {
+                let call_id = Text::copy_of(self.alloc, call_id_in(&notice))?;
+                self.record_of(call_id, number, moment)?
+                    .take_notice(notice)?;
+            }
+        }
+        Ok(())
+    }
+
+    // The record of a call of which something comes at this moment.
+    fn record_of(
+        &mut self,
+        call_id: Text,
+        number: u64,
+        moment: u64,
+    ) -> Result<&mut CallRecord, AllocError> {
+        let new = CallRecord::new(self.alloc, number, moment);
+        let record = self.calls.entry(call_id)?.or_insert(new);
+        record.touch(moment);
+        Ok(record)
+    }
+
+    /// Forgets the calls of which nothing is held at this moment any more.
+    pub(crate) fn forget(&mut self, moment: u64) {
+        self.calls.retain(|_, record| record.may_be_held(moment));
+    }
+
+    /// The number of the first round with an event of a call that is recorded; none if no call is.
+    pub(crate) fn first_round(&self) -> Option<u64> {
+        let mut first = None;
+        for record in self.calls.values() {
+            first = match first {
+                Some(number) if number <= record.first_round() => Some(number),
+                _ => Some(record.first_round()),
+            };
+        }
+        first
+    }
+
+    /// Whether this event of the round with this number is one of a call that is recorded, or a
+    /// failed send, which does nothing where no transaction has its key.
+    ///
+    /// # Errors
+    ///
+    /// Memory ran out.
+    pub(crate) fn keep(&self, number: u64, event: &Event) -> Result<bool, AllocError> {
+        if let Event::Failed(_) = event {
+            return Ok(true);
+        }
+        let Some(call_id) = call_id_of(self.alloc, event)? else {
+            return Ok(false);
+        };
+        Ok(match self.calls.get(&call_id) {
+            Some(record) => record.first_round() <= number,
+            None => false,
+        })
+    }
+}
+
+// The Call-ID of an event: of a datagram the first one in its head.
+fn call_id_of(alloc: Global, event: &Event) -> Result<Option<Text>, AllocError> {
+    match event {
+        Event::Datagram { bytes, .. } => {
+            let values = header_values(alloc, bytes.as_slice(), CALL_ID)?;
+            match values.first() {
+                Some(call_id) => Ok(Some(call_id.clone()?)),
+                None => Ok(None),
+            }
+        }
+        Event::Command(command) => {
+            let call_id = command.call_id();
+            Ok(Some(Text::copy_of(alloc, call_id.as_slice())?))
+        }
+        Event::Failed(_) => Ok(None),
+    }
+}
+
+// The Call-ID of a notice.
+fn call_id_in(notice: &Notice) -> &[u8] {
+    let call_id = match notice {
+        Notice::Request { call_id, .. }
+        | Notice::Response { call_id, .. }
+        | Notice::Ack { call_id, .. }
+        | Notice::Prack { call_id, .. }
+        | Notice::Timeout { call_id, .. }
+        | Notice::Failed { call_id, .. }
+        | Notice::NoAck { call_id, .. }
+        | Notice::NoPrack { call_id, .. }
+        | Notice::Cancel { call_id, .. }
+        | Notice::Ended { call_id, .. }
+        | Notice::Refused { call_id, .. } => call_id,
+    };
+    call_id.as_slice()
+}
+
+// The places of the events that were refused.
+fn refused_places(alloc: Global, outputs: &[Output]) -> Result<BTreeSet<u32>, AllocError> {
+    let mut places = BTreeSet::new(alloc);
+    for output in outputs {
+        if let Output::Notice(Notice::Refused { place, .. }) = output {
+            places.insert(*place)?;
+        }
+    }
+    Ok(places)
+}

@@ -1,0 +1,15 @@
+//! Shorter journals: which events a journal can do without, and whether a shorter journal leaves an
+//! agent that answers all that follows as the longer one's agent does.
+#![tactic(auto)]
+
+mod call_record;
+mod call_records;
+mod compaction;
+mod equivalence;
+mod journal_rounds;
+mod kept_events;
+mod one_cut;
+
+pub use compaction::write_shorter;
+pub use equivalence::leaves_the_same;
+pub use one_cut::OneCut;
