@@ -152,7 +152,8 @@ class Ended:
 class IncomingRequest:
     """A request of the peer: one in a call, such as INFO or a re-INVITE, or one outside of calls.
     `method` is its method, `message` has its headers and its body. `respond` answers it;
-    `is_answered` says whether it has its final response. If its call ends first, it gets a 487."""
+    `is_answered` says whether it has its final response. If its call ends first, it gets a 487; a
+    re-INVITE that crosses one of ours gets a 491 by itself."""
 
     def __init__(self, agent: "UserAgent", notice: RequestNotice, message: Message):
         self.method = notice.method
@@ -321,7 +322,7 @@ class Call:
         """Sends a request in the call, such as INFO or a re-INVITE, and returns its final response.
         481 and 408 end the call (RFC 3261, section 12.2.1.2). If the call ends first, the request
         is given up, and this returns 481. A peer may answer a re-INVITE by a 100 alone: bound that
-        by `asyncio.wait_for`."""
+        by `asyncio.wait_for`. To end the call, use `hang_up`."""
         if self._tags is None or not self.is_up:
             return FinalResponse(481, "Call/Transaction Does Not Exist")
         call_id, tags = self.call_id, self._tags
@@ -346,7 +347,7 @@ class Call:
 
     def acknowledge(self, answer: bytes = b"", headers: Headers = ()) -> None:
         """Sends the ACK of a 2xx whose INVITE had no body: the 2xx has the offer, and the ACK the
-        answer. Other ACKs go out by themselves."""
+        answer. Other ACKs go out by themselves; then, and after the end, this does nothing."""
         if self._owes_ack and self._tags is not None:
             self._owes_ack = False
             self._agent.ask(Ack(self.call_id, *self._tags, answer, headers))

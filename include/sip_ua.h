@@ -101,7 +101,7 @@ typedef struct sip_ua_configuration {
 
 /* The id of an event. In lines it is written `round.place`. */
 typedef struct sip_ua_id {
-    bool is_given;
+    bool is_given; /* false only where there is no id */
     uint32_t place;
     uint64_t round;
 } sip_ua_id;

@@ -1,5 +1,7 @@
 //! Several agents: the parts of a round, and their outputs in the order of agents.
 
+ghost use Rattle.std.specs.Prelude.{◌≡◌, IfOk, length};
+
 use crate::examples::worked::CONFIG;
 use crate::refusals::{SHARDS, WORKERS};
 use sip_agents::{AgentOutput, Agents, Part, STRIPE, agent_of_id, config_of};
@@ -28,6 +30,9 @@ const NO_MESSAGE: &[u8] = b"none";
 /// The answer to the other request.
 const RESPOND: &[u8] = b"respond c2 288230376151711744.1 200 plain - OK";
 
+/// The most events of a round here.
+const FEW: usize = 3;
+
 /// When its transaction ends, after its answer at 10 ms.
 const END: u64 = 32_010;
 
@@ -47,11 +52,25 @@ fn requests_are_told<R: Threads + Sync>(
 ) -> Result<(), Stop> {
     let other = message(alloc, OTHER)?;
     check(agents.would_begin(&other)?)?;
-    let parts = agents.parts_of(datagrams(alloc, &[OTHER, OPTIONS, NO_MESSAGE])?)?;
+    let parts = parts_of(agents, datagrams(alloc, &[OTHER, OPTIONS, NO_MESSAGE])?)?;
     check(have_places(&parts))?;
     let outputs = agents.run_round(rt, &parts, WORKERS);
     check(are_of_each_agent(&told(agents, outputs)?))?;
     check(!agents.would_begin(&other)? && agents.next_round() == 1)
+}
+
+// The parts of a round of a few events, one for each agent.
+fn parts_of(agents: &Agents<Spread, Spread>, round: Round) -> Result<Vec<Part>, Stop>
+    ensures { IfOk result (λ parts. length parts.items ≡ agents.now.count) }
+{
+    if round.events.len() > FEW {
+        return Err(Stop::Different);
+    }
+    let parts = agents.parts_of(round)?;
+    if parts.len() != agents.count() {
+        return Err(Stop::Different);
+    }
+    Ok(parts)
 }
 
 // A round with these datagrams.
@@ -123,7 +142,7 @@ fn a_request_is_answered(alloc: Global, agents: &mut Agents<Spread, Spread>) -> 
     };
     let mut events = Series::new(alloc);
     events.push(Event::Command(command))?;
-    let parts = agents.parts_of(Round { moment: 10, events })?;
+    let parts = parts_of(agents, Round { moment: 10, events })?;
     let outputs = agents.run_round_in_turn(&parts);
     check(is_sent_by_the_second(&told(agents, outputs)?))?;
     check(agents.next_due() == Some(END) && agents.agents().len() == 2)
