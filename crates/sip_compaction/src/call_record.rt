@@ -1,6 +1,6 @@
 //! What the rounds of a journal leave open of one call.
 
-use sip_message::{Id, Token};
+use sip_message::Id;
 use sip_text::Text;
 use sip_user::{Notice, UserCommand};
 use std::alloc::{AllocError, Global};
@@ -21,6 +21,15 @@ const LINGER: u64 = 128_000;
 struct DialogTags {
     local: Text,
     remote: Text,
+}
+
+impl DialogTags {
+    fn copy_of(local: &Text, remote: &Text) -> Result<DialogTags, AllocError> {
+        Ok(DialogTags {
+            local: local.clone()?,
+            remote: remote.clone()?,
+        })
+    }
 }
 
 /// A request that came and has no final response.
@@ -108,38 +117,42 @@ impl CallRecord {
     }
 
     /// The user was told this of the call.
-    pub(crate) fn take_notice(&mut self, notice: Notice) -> Result<(), AllocError> {
+    pub(crate) fn take_notice(&mut self, notice: &Notice) -> Result<(), AllocError> {
         match notice {
             Notice::Request {
                 id,
                 method,
-                local_tag: local,
-                remote_tag: remote,
+                local_tag,
+                remote_tag,
                 ..
             } => {
-                let is_invite = is_invite(&method);
-                let tags = DialogTags { local, remote };
-                self.received.insert(id, Received { is_invite, tags })?;
+                let is_invite = method.as_slice() == b"INVITE".as_slice();
+                let tags = DialogTags::copy_of(local_tag, remote_tag)?;
+                self.received.insert(*id, Received { is_invite, tags })?;
             }
             Notice::Response {
                 id,
                 status,
-                local_tag: local,
-                remote_tag: remote,
-                ..
-            } => self.take_response(id, status.code(), DialogTags { local, remote })?,
-            Notice::Timeout { id, .. } | Notice::Failed { id, .. } => {
-                self.sent.remove(&id);
-            }
-            Notice::Cancel { id, .. } => {
-                self.received.remove(&id);
-            }
-            Notice::Ended {
-                local_tag: local,
-                remote_tag: remote,
+                local_tag,
+                remote_tag,
                 ..
             } => {
-                self.dialogs.remove(&DialogTags { local, remote });
+                let tags = DialogTags::copy_of(local_tag, remote_tag)?;
+                self.take_response(*id, status.code(), tags)?;
+            }
+            Notice::Timeout { id, .. } | Notice::Failed { id, .. } => {
+                self.sent.remove(id);
+            }
+            Notice::Cancel { id, .. } => {
+                self.received.remove(id);
+            }
+            Notice::Ended {
+                local_tag,
+                remote_tag,
+                ..
+            } => {
+                let tags = DialogTags::copy_of(local_tag, remote_tag)?;
+                self.dialogs.remove(&tags);
             }
             Notice::Ack { .. }
             | Notice::Prack { .. }
@@ -162,8 +175,4 @@ impl CallRecord {
         }
         Ok(())
     }
-}
-
-fn is_invite(method: &Token) -> bool {
-    method.as_slice() == b"INVITE".as_slice()
 }

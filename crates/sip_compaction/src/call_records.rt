@@ -43,9 +43,9 @@ impl CallRecords {
         &mut self,
         number: u64,
         round: &Round,
-        outputs: Vec<Output>,
+        outputs: &[Output],
     ) -> Result<(), AllocError> {
-        let refused = refused_places(self.alloc, &outputs)?;
+        let refused = refused_places(self.alloc, outputs)?;
         let mut id = Id {
             round: number,
             place: 0,
@@ -84,11 +84,11 @@ impl CallRecords {
         &mut self,
         number: u64,
         moment: u64,
-        outputs: Vec<Output>,
+        outputs: &[Output],
     ) -> Result<(), AllocError> {
         for output in outputs {
             if let Output::Notice(notice) = output {
-                let call_id = Text::copy_of(self.alloc, call_id_in(&notice))?;
+                let call_id = Text::copy_of(self.alloc, call_id_in(notice))?;
                 self.record_of(call_id, number, moment)?
                     .take_notice(notice)?;
             }

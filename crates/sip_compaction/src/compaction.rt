@@ -100,7 +100,7 @@ fn choose<R: CountedRead>(alloc: Global, reader: &mut R) -> Result<Choice, Strea
             break;
         };
         let outputs = run(&mut agent, index, &round)?;
-        records.take_round(number, &round, outputs)?;
+        records.take_round(number, &round, &outputs)?;
         last = number;
         moment = round.moment;
     }

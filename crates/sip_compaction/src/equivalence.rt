@@ -1,6 +1,7 @@
 //! Whether two journals leave agents that answer all that follows alike.
 
-ghost use Rattle.std.specs.Prelude.{◌<◌, ◌≤◌, ◌⊎◌, IfErr, IfOk, IfSome};
+ghost use Rattle.std.specs.Prelude.{◌<◌, ◌≤◌, ◌⊎◌, IfErr, IfNone, IfOk, IfSome};
+ghost use Rattle.sip_compaction.specs.Journals.{LeaveOthers};
 ghost use Rattle.sip_files.specs.declared.version.FileKind.TheVariants.{Session};
 ghost use Rattle.sip_stream.specs.Streams.{StandsForFile, TellsStream};
 
@@ -39,6 +40,10 @@ pub fn leaves_the_same<T: Threads + Sync, L: CountedRead, S: CountedRead, C: One
         (StandsForFile C.shard_of Session agent))) }
     ensures short { IfOk result (λ given. IfSome given (λ agent. IfSome (S.remaining short.old)
         (StandsForFile C.shard_of Session agent))) }
+
+    // There is none only if the two leave something else. So it isn't always none.
+    ensures none { IfOk result (λ given. IfNone given (IfSome (L.remaining long.old)
+        (λ one. IfSome (S.remaining short.old) (LeaveOthers one)))) }
     ensures fault { IfErr result (λ fault.
         IfSome (L.remaining long.old) (TellsStream Session fault)
         ⊎ IfSome (S.remaining short.old) (TellsStream Session fault)) }

@@ -4,12 +4,14 @@
 
 mod call_record;
 mod call_records;
+mod compacted;
 mod compaction;
 mod equivalence;
 mod journal_rounds;
 mod kept_events;
 mod one_cut;
 
+pub use compacted::{Compacted, compact};
 pub use compaction::write_shorter;
 pub use equivalence::leaves_the_same;
 pub use one_cut::OneCut;

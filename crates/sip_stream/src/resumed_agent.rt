@@ -1,7 +1,8 @@
 //! The agent that a file leaves.
 
-ghost use Rattle.std.specs.Prelude.{◌<◌, ◌≤◌, IfErr, IfOk, IfSome};
+ghost use Rattle.std.specs.Prelude.{◌≡◌, ◌<◌, ◌≤◌, IfErr, IfOk, IfSome};
 ghost use Rattle.sip_files.specs.Counted.{Counts};
+ghost use Rattle.sip_round.specs.AgentState.{shard_count};
 ghost use Rattle.sip_stream.specs.Streams.{StandsForFile, TellsStream, input_failures};
 
 use crate::stream_fault::StreamFault;
@@ -35,6 +36,7 @@ pub fn resumed_by<T: Threads + Sync, R: CountedRead, C: Cut + Drop>(
     requires most_workers { workers ≤ 64 }
     ensures stands { IfOk result (λ agent. IfSome (R.remaining reader.old)
         (StandsForFile C.shard_of kind agent)) }
+    ensures count { IfOk result (λ agent. shard_count agent ≡ shards) }
     ensures fault { IfErr result
         (λ fault. IfSome (R.remaining reader.old) (TellsStream kind fault)) }
     ensures input { Counts (R.failures reader.old) (R.failures reader.new) (input_failures result) }

@@ -1,8 +1,9 @@
 //! Replays a file round by round.
 
-ghost use Rattle.std.specs.Prelude.{◌<◌, ◌≤◌, ◌^◌, [], IfErr, IfOk, IfSome, IsTrue, OnErr, OnOk, length};
+ghost use Rattle.std.specs.Prelude.{◌≡◌, ◌<◌, ◌≤◌, ◌^◌, [], IfErr, IfOk, IfSome, IsTrue, OnErr, OnOk, length};
 ghost use Rattle.sip_files.specs.Counted.{Counts};
 ghost use Rattle.sip_files.specs.EventFile.{SpellsFile};
+ghost use Rattle.sip_round.specs.AgentState.{shard_count};
 ghost use Rattle.sip_stream.specs.Steps.{Ends, TellsHead};
 ghost use Rattle.sip_stream.specs.Streams.{ComesOnly, StandsForFile, StreamsAll, StreamsFront, TellsStream, WritesBefore, input_failures, output_failures};
 
@@ -81,6 +82,7 @@ pub(crate) fn stream<T: Threads + Sync, R: CountedRead, W: CountedWrite, C: Cut 
     requires most_workers { workers ≤ 64 }
     ensures stands { IfOk result (λ agent. IfSome (R.remaining reader.old)
         (StandsForFile C.shard_of kind agent)) }
+    ensures count { IfOk result (λ agent. shard_count agent ≡ shards) }
     ensures ends { Ends kind (R.remaining reader.old) (W.contents writer.old) (W.contents writer.new)
         (R.failures reader.old) (R.failures reader.new) (W.failures writer.old)
         (W.failures writer.new) (W.flushed writer.new) result }

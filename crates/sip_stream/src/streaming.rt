@@ -3,6 +3,7 @@
 ghost use Rattle.std.specs.Prelude.{◌≡◌, ◌<◌, ◌≤◌, ◌-◌, [], IfErr, IfOk, IfSome, IsTrue, List, OnErr, OnOk};
 ghost use Rattle.sip_files.specs.Counted.{Counts};
 ghost use Rattle.sip_files.specs.Outputs.{round_outputs_text};
+ghost use Rattle.sip_round.specs.AgentState.{shard_count};
 ghost use Rattle.sip_round.specs.declared.config.Config.{Config as AConfig};
 ghost use Rattle.sip_round.specs.declared.round.Round.{Round as ARound};
 ghost use Rattle.sip_stream.specs.Steps as steps;
@@ -50,6 +51,7 @@ impl<C: Cut + Drop> Streaming<C> {
         requires some_worker { 0 < workers }
         requires most_workers { workers ≤ 64 }
         ensures stands { IfOk result (λ made. Stands C.shard_of made.agent config []) }
+        ensures count { IfOk result (λ made. shard_count made.agent ≡ shards) }
         ensures first { IfOk result (λ made. made.first ≡ config.first) }
         ensures fault { IfErr result (λ fault. fault ≡ stream_fault.NoMemory) }
     {
@@ -92,6 +94,7 @@ impl<C: Cut + Drop> Streaming<C> {
         gate: &G,
     ) -> Result<(), StreamFault>
         ensures same { self.new.first ≡ self.old.first }
+        ensures count { OnOk result (shard_count self.new.agent ≡ shard_count self.old.agent) }
         ensures goes_on { OnOk result ((config : AConfig) (rounds : List ARound)
             → Stands C.shard_of self.old.agent config rounds
             → GoesOn C.shard_of self.new.agent (W.contents writer.old) (W.contents writer.new)
