@@ -1,5 +1,5 @@
 -- The outcome of a request closes it, and a CANCEL goes out.
-use Rattle.std.proofs.Common.{◌≡◌, ℕ, Bool, true, false, not, ◌&&◌, ◌||◌, cond, List, [], ◌∷◌, ◌++◌, refl, sym, ap, subst, ◌∙◌}
+use Rattle.std.proofs.Common.{◌≡◌, ℕ, Bool, true, false, not, ◌&&◌, ◌||◌, cond, List, [], ◌∷◌, ◌++◌, ◌==◌, eq-eqb, refl, sym, ap, subst, ◌∙◌}
 use Rattle.std.specs.Prelude.{Option, None, Some, fold, is_none, is_some, if◌then◌else◌}
 use Rattle.std.specs.List.{list_any}
 use Rattle.std.specs.Map.{remove_entry, set_value}
@@ -49,26 +49,30 @@ both_true false y e = absurd (false≢true e)
 first_told : (b : Bool) (rest : Bool) → b ≡ true → (b || rest) ≡ true
 first_told b rest is = ap (λ c. c || rest) is
 
-kept_closed : (id : Id) (taken : CallTaken)
-    → list_any (tells_outcome id) taken.1 ≡ true → client_at id (taken.0).clients ≡ None
-    → IsClosed id (kept taken)
-kept_closed id taken told gone = record {
+kept_closed : (id : Id) (came : UpKind) (taken : CallTaken)
+    → list_any (tells_outcome id came) taken.1 ≡ true → client_at id (taken.0).clients ≡ None
+    → IsClosed id came (kept taken)
+kept_closed id came taken told gone = record {
   told = told;
   gone = ap (λ (side : Side). client_at id side.clients) (kept_side taken.0) ∙ gone;
 }
 
 -- a last response is told, and the request is over
 last_closes : (event : Event) (id : Id) (call_id : List ℕ) (response : Message) (side : Side)
-    (status : ℕ) (client : Client)
+    (status : ℕ) (client : Client) → status_of response.start ≡ Some status
     → (is_final status && not (is_invite_kind client.kind && is_success status)) ≡ true
-    → (list_any (tells_outcome id)
+    → (list_any (tells_outcome id (kind.Response response))
     (response_to event id call_id response side status client).1 ≡ true)
     × (((response_to event id call_id response side status client).0).clients
     ≡ remove_entry (is_id id) side.clients)
-last_closes event id call_id response side status client last =
+last_closes event id call_id response side status client has last =
     let final = (both_true (is_final status)
     (not (is_invite_kind client.kind && is_success status)) last).0 in
-    rw (last, final) (first_told (is_id id id) _ (id_laws.refl id), refl)
+    let told : (is_id id id && option_map_or (λ came. came == status) (status_of response.start)
+    false) ≡ true =
+    λ i. id_laws.refl id i && (ap (λ o. option_map_or (λ came. came == status) o false) has
+    ∙ eq-eqb status status refl) i in
+    rw (last, final) (first_told _ _ told, refl)
 
 abbrev TakenBy : Call → Event → AnUp → Message → Option ℕ → Option Client → ClientTaken
 TakenBy call event up response status o =
@@ -78,41 +82,42 @@ TakenBy call event up response status o =
 
 response_closes : (call : Call) (event : Event) (up : AnUp) (response : Message) (client : Client)
     → AreSound call.clients → client_at up.id call.clients ≡ Some client → (o : Option ℕ)
+    → status_of response.start ≡ o
     → option_map_or (λ status. is_final status
     && not (is_invite_kind client.kind && is_success status)) o false ≡ true
-    → IsClosed up.id (kept (by_clients call
+    → IsClosed up.id (kind.Response response) (kept (by_clients call
     (TakenBy call event up response o (client_at up.id call.clients))))
-response_closes call event up response client sound found None is = absurd (false≢true is)
-response_closes call event up response client sound found (Some status) is =
+response_closes call event up response client sound found None has is = absurd (false≢true is)
+response_closes call event up response client sound found (Some status) has is =
     let closes =
-    last_closes event up.id up.call_id response (side_of call) status client is in
-    subst (λ (o : Option Client). IsClosed up.id (kept (by_clients call
+    last_closes event up.id up.call_id response (side_of call) status client has is in
+    subst (λ (o : Option Client). IsClosed up.id (kind.Response response) (kept (by_clients call
     (TakenBy call event up response (Some status) o)))) (sym found)
-    (kept_closed up.id (by_clients call
+    (kept_closed up.id (kind.Response response) (by_clients call
     (response_to event up.id up.call_id response (side_of call) status client)) closes.0
     (ap (client_at up.id) closes.1 ∙ gone_at up.id call.clients sound))
 
 received_closes : (call : Call) (event : Event) (up : AnUp) (k : UpKind) (client : Client)
     → AreSound call.clients → client_at up.id call.clients ≡ Some client
-    → is_outcome client k ≡ true → IsClosed up.id (kept (received call event up k))
+    → is_outcome client k ≡ true → IsClosed up.id k (kept (received call event up k))
 unfolding request_is_lost response_received
 received_closes call event up (kind.Request request reply_to) client sound found is =
     absurd (false≢true is)
 received_closes call event up (kind.Ack ack) client sound found is = absurd (false≢true is)
 received_closes call event up kind.Timeout client sound found is =
-    kept_closed up.id (received call event up kind.Timeout)
+    kept_closed up.id kind.Timeout (received call event up kind.Timeout)
     (first_told (is_id up.id up.id) _ (id_laws.refl up.id)) (gone_at up.id call.clients sound)
 received_closes call event up kind.Failed client sound found is =
-    kept_closed up.id (received call event up kind.Failed)
+    kept_closed up.id kind.Failed (received call event up kind.Failed)
     (first_told (is_id up.id up.id) _ (id_laws.refl up.id)) (gone_at up.id call.clients sound)
 received_closes call event up (kind.Response response) client sound found is =
-    response_closes call event up response client sound found (status_of response.start) is
+    response_closes call event up response client sound found (status_of response.start) refl is
 
 closes_from : (calls : Calls) (state : Option Call) (event : Id) (up : AnUp) (now : ℕ)
     (client : Client) → AreSound (side_held state).clients
     → client_at up.id (side_held state).clients ≡ Some client
     → is_outcome client up.kind ≡ true
-    → IsClosed up.id (call_step calls state (Some (event, Up up)) now)
+    → IsClosed up.id up.kind (call_step calls state (Some (event, Up up)) now)
 closes_from calls None event up now client sound found is = absurd cc
 closes_from calls (Some call) event up now client sound found is =
     received_closes call (event_of calls event now) up up.kind client sound found is

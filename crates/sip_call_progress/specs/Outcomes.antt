@@ -1,6 +1,6 @@
 -- What a call does with the outcome of a request of the agent, and when a CANCEL goes out (RFC
 -- 3261, sections 8.1.3.1, 9.1 and 17.1).
-use Rattle.std.specs.Prelude.{◌≡◌, ℕ, Bool, true, false, not, ◌&&◌, List, [], ◌∷◌, ◌++◌, None, Some, if◌then◌else◌}
+use Rattle.std.specs.Prelude.{◌≡◌, ℕ, Bool, true, false, not, ◌&&◌, ◌==◌, List, [], ◌∷◌, ◌++◌, None, Some, if◌then◌else◌}
 use Rattle.std.specs.List.{list_any}
 use Rattle.std.specs.Option.{option_map, option_map_or}
 use Rattle.keyed_machine.specs.Machine.{Timed}
@@ -46,17 +46,18 @@ is_outcome client (kind.Response response) =
 is_outcome client kind.Timeout = true
 is_outcome client kind.Failed = true
 
--- the user is told of it
-abbrev pub tells_outcome : Id → CallOut → Bool
-tells_outcome id (Notice (Response call_id request status local_tag remote_tag body)) =
-    is_id id request
-tells_outcome id (Notice (Timeout call_id request)) = is_id id request
-tells_outcome id (Notice (Failed call_id request)) = is_id id request
-tells_outcome id _ = false
+-- the user is told of it by the notice of its kind, of a response with its status
+abbrev pub tells_outcome : Id → UpKind → CallOut → Bool
+tells_outcome id (kind.Response response) (Notice (Response call_id request status local_tag
+    remote_tag body)) =
+    is_id id request && option_map_or (λ came. came == status) (status_of response.start) false
+tells_outcome id kind.Timeout (Notice (Timeout call_id request)) = is_id id request
+tells_outcome id kind.Failed (Notice (Failed call_id request)) = is_id id request
+tells_outcome id _ _ = false
 
--- the user is told, and the request is no longer held
-pub record IsClosed (id : Id) (taken : Taken) : Type 0 where
-  pub told : list_any (tells_outcome id) taken.1 ≡ true
+-- the user is told of what came up, and the request is no longer held
+pub record IsClosed (id : Id) (came : UpKind) (taken : Taken) : Type 0 where
+  pub told : list_any (tells_outcome id came) taken.1 ≡ true
   pub gone : client_at id (side_held taken.0).clients ≡ None
 
 -- whatever came to a call: the outcome of a request that is held closes it at once
@@ -64,7 +65,7 @@ abbrev pub OutcomeCloses : Type 0
 OutcomeCloses = (calls : Calls) (inputs : List (Timed CallItem)) (event : Id) (up : AnUp) (now : ℕ)
     (client : Client) → let call = call_from calls None inputs in
     client_at up.id (side_held call).clients ≡ Some client → is_outcome client up.kind ≡ true
-    → IsClosed up.id (call_step calls call (Some (event, Up up)) now)
+    → IsClosed up.id up.kind (call_step calls call (Some (event, Up up)) now)
 
 -- ---- a CANCEL
 
