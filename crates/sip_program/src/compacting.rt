@@ -5,7 +5,7 @@ use crate::host::Host;
 use crate::talk_fault::TalkFault;
 use crate::talking::{bad_file, bad_word};
 use crate::words::CompactWords;
-use sip_compaction::{leaves_the_same, write_shorter};
+use sip_compaction::compact;
 use sip_message::Spread;
 use sip_stream::StreamFault;
 use sip_udp::UaFault;
@@ -15,73 +15,70 @@ use std::io::{self, Write};
 use std::rt::Files;
 use std::thread::Threads;
 
-/// Writes a shorter journal, and checks that it leaves an agent that answers all that follows alike.
-/// If it doesn't, the whole journal is written in its place.
+/// Writes a shorter journal, whose agent answers all that follows alike, to a new file. If none was
+/// found, it says so and writes the whole journal.
 pub(crate) fn compact_by<'a, T: Threads + Host, E: Write>(
     rt: &T,
     alloc: Global,
     words: CompactWords<'a>,
     errors: &mut E,
 ) -> Result<(), Failure<'a>> {
-    let mut first = opened(rt, "--journal", words.journal)?;
-    if !rt.has_alone(&first) {
-        return Err(bad_word(
-            "--journal",
-            words.journal,
-            "another process has it",
-        ));
+    let mut journal = opened(rt, words)?;
+    if !rt.has_alone(&journal) {
+        let wanted = "another process has it";
+        return Err(bad_word("--journal", words.journal, wanted));
     }
-    let mut again = opened(rt, "--journal", words.journal)?;
-    let mut shorter = created(rt, words.into)?;
-    write_shorter(alloc, &mut first, &mut again, &mut shorter).map_err(failure_of)?;
-    let mut long = opened(rt, "--journal", words.journal)?;
-    let mut short = opened(rt, "--into", words.into)?;
-    let same = leaves_the_same(rt, alloc, &mut long, &mut short, 1, 1, Spread);
-    if same.map_err(failure_of)?.is_some() {
-        return Ok(());
-    }
-    let _ = writeln!(errors, "ua: no shorter journal was found");
-    copy_whole(rt, words)
-}
-
-// Writes the whole journal.
-fn copy_whole<'a, T: Files>(rt: &T, words: CompactWords<'a>) -> Result<(), Failure<'a>> {
-    let mut whole = opened(rt, "--journal", words.journal)?;
-    let mut into = emptied(rt, words.into)?;
-    match io::copy(&mut whole, &mut into) {
-        Ok(_) => Ok(()),
-        Err(error) => Err(bad_file(UaFault::Output, "--into", words.into, error)),
+    let mut again = opened(rt, words)?;
+    let mut once_more = opened(rt, words)?;
+    let compacted = compact(
+        rt,
+        alloc,
+        &mut journal,
+        &mut again,
+        &mut once_more,
+        1,
+        1,
+        Spread,
+    );
+    match compacted {
+        Ok(Some(compacted)) => written(created(rt, words)?.write_all(&compacted.text), words),
+        Ok(None) => {
+            let _ = writeln!(errors, "ua: no shorter journal was found");
+            let mut whole = opened(rt, words)?;
+            let copied = io::copy(&mut whole, &mut created(rt, words)?);
+            written(copied.map(|_| ()), words)
+        }
+        Err(fault) => Err(failure_of(fault)),
     }
 }
 
-fn opened<'a, T: Files>(rt: &T, option: &'a str, path: &'a str) -> Result<T::File, Failure<'a>> {
+fn opened<'a, T: Files>(rt: &T, words: CompactWords<'a>) -> Result<T::File, Failure<'a>> {
+    let path = words.journal;
     match File::open(rt, path) {
         Ok(file) => Ok(file),
-        Err(error) => Err(bad_file(UaFault::Journal, option, path, error)),
+        Err(error) => Err(bad_file(UaFault::Journal, "--journal", path, error)),
     }
 }
 
 // A new file: none is overwritten.
-fn created<'a, T: Files>(rt: &T, path: &'a str) -> Result<T::File, Failure<'a>> {
+fn created<'a, T: Files>(rt: &T, words: CompactWords<'a>) -> Result<T::File, Failure<'a>> {
     let mut options = OpenOptions::new();
     options.write(true).create_new(true);
-    match options.open(rt, path) {
+    match options.open(rt, words.into) {
         Ok(file) => Ok(file),
-        Err(error) => Err(bad_file(UaFault::Output, "--into", path, error)),
+        Err(error) => Err(bad_file(UaFault::Output, "--into", words.into, error)),
     }
 }
 
-// That file, emptied.
-fn emptied<'a, T: Files>(rt: &T, path: &'a str) -> Result<T::File, Failure<'a>> {
-    let mut options = OpenOptions::new();
-    options.write(true).truncate(true);
-    match options.open(rt, path) {
-        Ok(file) => Ok(file),
-        Err(error) => Err(bad_file(UaFault::Output, "--into", path, error)),
+// How the writing of the new file ended.
+fn written<'a>(end: io::Result<()>, words: CompactWords<'a>) -> Result<(), Failure<'a>> {
+    match end {
+        Ok(()) => Ok(()),
+        Err(error) => Err(bad_file(UaFault::Output, "--into", words.into, error)),
     }
 }
 
-// The failure for a journal, or for the shorter one.
+// The failure for the journal.
 fn failure_of<'a>(fault: StreamFault) -> Failure<'a> {
     let fault = match fault {
         StreamFault::Input => UaFault::Journal,

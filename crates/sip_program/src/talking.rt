@@ -416,7 +416,12 @@ fn record_at<'a, T: Files>(
 }
 
 /// The failure for the file of an option.
-pub(crate) fn bad_file<'a>(fault: UaFault, option: &'a str, path: &'a str, error: io::Error) -> Failure<'a> {
+pub(crate) fn bad_file<'a>(
+    fault: UaFault,
+    option: &'a str,
+    path: &'a str,
+    error: io::Error,
+) -> Failure<'a> {
     Failure::new(
         TalkFault::Ua(fault),
         Cause::File {
