@@ -1,6 +1,6 @@
 -- Each command of the user is refused, or gives what it asks for, once.
-use Rattle.std.proofs.Common.{◌≡◌, ◌⊎◌, inl, inr, ℕ, Bool, true, false, not, ◌||◌, cond, List, [], ◌∷◌, map, refl, sym, ap, subst, ◌∙◌}
-use Rattle.std.specs.Prelude.{Option, None, Some, codes, filter, find, fold, is_some, if◌then◌else◌}
+use Rattle.std.proofs.Common.{◌≡◌, ◌⊎◌, inl, inr, ℕ, Bool, true, false, not, ◌&&◌, ◌||◌, cond, List, [], ◌∷◌, map, refl, sym, ap, subst, ◌∙◌}
+use Rattle.std.specs.Prelude.{Option, None, Some, codes, filter, find, fold, is_none, is_some, if◌then◌else◌}
 use Rattle.std.specs.List.{list_any}
 use Rattle.std.specs.Map.{lookup, set_value, values_of}
 use Rattle.std.specs.Option.{option_map_or}
@@ -36,7 +36,7 @@ use Rattle.sip_user.specs.declared.item.CallOut.{CallOut}
 use Rattle.sip_user.specs.declared.item.CallOut.TheVariants.{Command}
 use Rattle.sip_user.specs.declared.item.Item.TheVariants.{User}
 use Rattle.sip_user.specs.declared.refusal.Refusal.{Refusal}
-use Rattle.sip_user.specs.declared.refusal.Refusal.TheVariants.{BadMethod, NoSuchDialog, NoSuchRequest, NothingToAck, NothingToPrack}
+use Rattle.sip_user.specs.declared.refusal.Refusal.TheVariants.{AlreadyFinal, BadMethod, NoSuchDialog, NoSuchRequest, NothingToAck, NothingToPrack}
 use Rattle.sip_held_dialogs.specs.declared.pending_request.PendingRequest.{PendingRequest}
 use Rattle.sip_held_dialogs.specs.declared.pending_request.PendingRequest.TheVariants.{Ack, Prack}
 use Rattle.sip_held_dialogs.specs.declared.held_dialog.DialogId.{DialogId}
@@ -48,6 +48,7 @@ use Rattle.sip_served.specs.declared.held_request.HeldRequest.{HeldRequest}
 use Rattle.sip_served.specs.Respond.{answer_to, by_refusal, by_request, confirms_dialog, dialogs_answered, made_dialog, makes_dialog, refusal_for, rejects, respond_taken}
 use Rattle.sip_served.specs.State.{State, ServedTaken, has_id}
 use Rattle.sip_served.proofs.ResponseRules.{respond_same}
+use Rattle.sip_clients.specs.declared.client.Cancelling.{Cancelling}
 use Rattle.sip_clients.specs.declared.client.Cancelling.TheVariants.{Sent, Waits}
 use Rattle.sip_clients.specs.declared.client.Client.{Client}
 use Rattle.sip_clients.specs.declared.event.Event.{Event}
@@ -61,9 +62,11 @@ use Rattle.sip_clients.proofs.Abandons as abandons
 use Rattle.sip_calls.specs.declared.call.Call.{Call}
 use Rattle.sip_calls.specs.declared.calls.Calls.{Calls}
 use Rattle.sip_calls.specs.Call.{call_refusal, call_step, event_of, item_of_call, new_call, used_command}
+use Rattle.sip_calls.specs.Provisionals.{side_held}
 use Rattle.sip_calls.specs.Sides.{side_of}
 use Rattle.sip_calls.proofs.RefusedAlone.{refused_alone}
 use Rattle.sip_call_progress.specs.Commanded.{EachCommandIsAnswered, GivesOne, OneAck, OneCommand, abandons as gives_up, answers, goes_out, starts}
+use Rattle.sip_call_progress.specs.Waiting.{lacks_response}
 use Rattle.sip_call_progress.proofs.Ended.{ended_same}
 
 -- not refused
@@ -147,12 +150,7 @@ respond_gives state event r now = by_held (find (has_id r.id) state.requests)
     by_held None none = no_refusal none
     by_held (Some held) none = by_reason held (refusal_for state.dialogs r held) none
 
--- ---- one of two, one of an option
-
-if_gives : (P : List CallOut → Type 0) (b : Bool) (x y : ClientTaken) → (Unrefused x.1 → P x.1)
-    → (Unrefused y.1 → P y.1) → Unrefused (if b then x else y).1 → P (if b then x else y).1
-if_gives P true x y first second = first
-if_gives P false x y first second = second
+-- ---- one of an option
 
 or_gives : {X : Type 0} (P : List CallOut → Type 0) (f : X → ClientTaken) (otherwise : ClientTaken)
     → ((x : X) → Unrefused (f x).1 → P (f x).1) → (Unrefused otherwise.1 → P otherwise.1)
@@ -298,37 +296,52 @@ prack_gives event command side =
 
 -- ---- a CANCEL
 
-abbrev CancelGives : List CallOut → Type 0
-CancelGives outs = OneCommand (starts (codes "CANCEL")) outs ⊎ (outs ≡ [])
+-- whether an INVITE of its id is held that lacks its final response
+abbrev CancelGives : Bool → List CallOut → Type 0
+CancelGives lacks outs =
+    OneCommand (starts (codes "CANCEL")) outs ⊎ ((outs ≡ []) × (lacks ≡ true))
 
 invite_gives : (event : Event) (command : ACancel) (side : Side) (invite : Client)
     → Unrefused (cancel_of_request event command side invite).1
-    → CancelGives (cancel_of_request event command side invite).1
+    → CancelGives (lacks_response invite) (cancel_of_request event command side invite).1
 invite_gives event command side invite =
-    if_gives CancelGives (not (is_invite_kind invite.kind)) _ _ (λ none. no_refusal none)
-    (if_gives CancelGives (is_some invite.removal) _ _ (λ none. no_refusal none)
-    (if_gives CancelGives (is_asked invite.cancel) _ _ (λ none. inr refl)
-    (λ none. by_provisional invite.provisional)))
+    by_tests (is_invite_kind invite.kind) invite.removal _
+    (by_asked (is_asked invite.cancel) invite.provisional)
   where
-    by_provisional : (b : Bool) → CancelGives (cond {A = Clients × List CallOut} b
-        (start (set_value (is_id command.id) side.clients (record invite { cancel = Sent }), [])
-        (cancel_request event.id invite)) (
-          set_value (is_id command.id) side.clients (record invite {
-            cancel = Waits event.id;
-          }),
-          [],
-        )).1
-    by_provisional true = inl (_, _, refl, refl)
-    by_provisional false = inr refl
+    by_tests : (b : Bool) (o : Option ℕ) (rest : ClientTaken) → CancelGives true rest.1
+        → let outs = (if not b then refuse event command.call_id side NoSuchRequest
+        else if is_some o then refuse event command.call_id side AlreadyFinal else rest).1 in
+        Unrefused outs → CancelGives (b && is_none o) outs
+    by_tests false o rest gives none = no_refusal none
+    by_tests true (Some end) rest gives none = no_refusal none
+    by_tests true None rest gives none = gives
+
+    with_cancel : Cancelling → Clients
+    with_cancel cancel =
+        set_value (is_id command.id) side.clients (record invite { cancel = cancel })
+
+    by_asked : (asked provisional : Bool) → CancelGives true (cond {A = ClientTaken} asked
+        (side, []) (
+        let done = cond {A = Clients × List CallOut} provisional
+        (start (with_cancel Sent, []) (cancel_request event.id invite))
+        (with_cancel (Waits event.id), []) in
+        (record side { clients = done.0 }, done.1))).1
+    by_asked true provisional = inr (refl, refl)
+    by_asked false true = inl (_, _, refl, refl)
+    by_asked false false = inr (refl, refl)
 
 cancel_gives : (event : Event) (command : ACancel) (side : Side)
     → Unrefused (cancel_command event command side).1
-    → CancelGives (cancel_command event command side).1
+    → GivesOne side.clients (Cancel command) (cancel_command event command side).1
 unfolding cancel_command
-cancel_gives event command side =
-    or_gives CancelGives (cancel_of_request event command side)
-    (refuse event command.call_id side NoSuchRequest) (invite_gives event command side)
-    (λ none. no_refusal none) (lookup (is_id command.id) side.clients)
+cancel_gives event command side = by_found (client_at command.id side.clients)
+  where
+    by_found : (o : Option Client)
+        → let outs = (option_map_or (cancel_of_request event command side) o
+        (refuse event command.call_id side NoSuchRequest)).1 in
+        Unrefused outs → CancelGives (option_map_or lacks_response o false) outs
+    by_found None none = no_refusal none
+    by_found (Some invite) none = invite_gives event command side invite none
 
 -- ---- outside of dialogs
 
@@ -395,7 +408,7 @@ dialog_gives event command side = by_found (dialog_at own side.dialogs)
 
 used_gives : (call : Call) (event : Event) (command : UserCommand)
     → Unrefused (used_command call event command).1
-    → GivesOne command (used_command call event command).1
+    → GivesOne call.clients command (used_command call event command).1
 used_gives call event (Invite invite) = λ none. invite_goes event invite call.clients
 used_gives call event (Plain plain) = λ none. plain_goes event plain call.clients none
 used_gives call event (Request request) = λ none. request_gives event request (side_of call) none
@@ -417,13 +430,13 @@ used_gives call event (AbandonDialog abandon) =
 
 item_gives : (held : Bool) (call : Call) (event : Event) (command : UserCommand)
     → Unrefused (item_of_call held call event (User command)).1
-    → GivesOne command (item_of_call held call event (User command)).1
+    → GivesOne call.clients command (item_of_call held call event (User command)).1
 item_gives held call event command = by_refusal (call_refusal held command)
   where
     by_refusal : (o : Option Refusal) → Unrefused (option_map_or
         (λ refusal. (call, refused event.id (call_of_command command) refusal)) o
         (used_command call event command)).1
-        → GivesOne command (option_map_or
+        → GivesOne call.clients command (option_map_or
         (λ refusal. (call, refused event.id (call_of_command command) refusal)) o
         (used_command call event command)).1
     by_refusal None = used_gives call event command
@@ -431,7 +444,8 @@ item_gives held call event command = by_refusal (call_refusal held command)
 
 gives : (calls : Calls) (state : Option Call) (event : Id) (command : UserCommand) (now : ℕ)
     → Unrefused (call_step calls state (Some (event, User command)) now).1
-    → GivesOne command (call_step calls state (Some (event, User command)) now).1
+    → GivesOne (side_held state).clients command
+    (call_step calls state (Some (event, User command)) now).1
 gives calls None event command now =
     item_gives false (new_call calls.local) (event_of calls event now) command
 gives calls (Some call) event command now =

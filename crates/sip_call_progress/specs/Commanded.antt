@@ -1,6 +1,6 @@
 -- What each command of the user gives: a refusal alone, or what it asks for, once.
 use Rattle.std.specs.Prelude.{◌≡◌, ◌⊎◌, ℕ, Bool, true, false, not, List, [], ◌∷◌, Option, Some, codes, filter}
-use Rattle.std.specs.Option.{option_and_then}
+use Rattle.std.specs.Option.{option_and_then, option_map_or}
 use Rattle.sip_message.specs.declared.addr.Addr.{Addr}
 use Rattle.sip_message.specs.declared.id.Id.{Id}
 use Rattle.sip_transactions.specs.declared.input.Command.{Command as Order}
@@ -14,9 +14,12 @@ use Rattle.sip_user.specs.declared.item.Item.TheVariants.{User}
 use Rattle.sip_user.specs.declared.refusal.Refusal.{Refusal}
 use Rattle.sip_user.specs.Notices.{refused}
 use Rattle.sip_held_dialogs.specs.Requests.{is_method}
+use Rattle.sip_clients.specs.Client.{Clients, client_at}
 use Rattle.sip_calls.specs.declared.call.Call.{Call}
 use Rattle.sip_calls.specs.declared.calls.Calls.{Calls}
 use Rattle.sip_calls.specs.Call.{Taken, call_step, kept_call}
+use Rattle.sip_calls.specs.Provisionals.{side_held}
+use Rattle.sip_call_progress.specs.Waiting.{lacks_response}
 
 -- ---- what goes out
 
@@ -56,19 +59,22 @@ OneAck outs = (to : Addr) × (bytes : List ℕ) × (goes_out outs ≡ Direct to 
 
 -- ---- the law
 
--- The request, the PRACK, the ACK or the response goes out once, a reliable response too. A CANCEL
--- goes out, waits for a provisional response, or was asked for before; if it doesn't go out, nothing
--- is given (RFC 3261, section 9.1). To give up sends nothing.
-abbrev pub GivesOne : UserCommand → List CallOut → Type 0
-GivesOne (Invite invite) outs = OneCommand (starts (codes "INVITE")) outs
-GivesOne (Plain plain) outs = OneCommand (starts plain.method) outs
-GivesOne (Request request) outs = OneCommand (starts request.method) outs
-GivesOne (Respond respond) outs = OneCommand answers outs
-GivesOne (Ack ack) outs = OneAck outs
-GivesOne (Prack prack) outs = OneCommand (starts (codes "PRACK")) outs
-GivesOne (Cancel cancel) outs = OneCommand (starts (codes "CANCEL")) outs ⊎ (outs ≡ [])
-GivesOne (AbandonRequest abandon) outs = OneCommand abandons outs
-GivesOne (AbandonDialog abandon) outs = goes_out outs ≡ []
+-- What a command gives, if these requests of the agent were held. The request, the PRACK, the ACK
+-- or the response goes out once, a reliable response too. A CANCEL goes out; or nothing is given,
+-- and an INVITE of its id is held that lacks its final response: the CANCEL waits for a provisional
+-- one, or was asked for before (RFC 3261, section 9.1). To give up sends nothing.
+abbrev pub GivesOne : Clients → UserCommand → List CallOut → Type 0
+GivesOne clients (Invite invite) outs = OneCommand (starts (codes "INVITE")) outs
+GivesOne clients (Plain plain) outs = OneCommand (starts plain.method) outs
+GivesOne clients (Request request) outs = OneCommand (starts request.method) outs
+GivesOne clients (Respond respond) outs = OneCommand answers outs
+GivesOne clients (Ack ack) outs = OneAck outs
+GivesOne clients (Prack prack) outs = OneCommand (starts (codes "PRACK")) outs
+GivesOne clients (Cancel cancel) outs = OneCommand (starts (codes "CANCEL")) outs
+    ⊎ ((outs ≡ [])
+    × (option_map_or lacks_response (client_at cancel.id clients) false ≡ true))
+GivesOne clients (AbandonRequest abandon) outs = OneCommand abandons outs
+GivesOne clients (AbandonDialog abandon) outs = goes_out outs ≡ []
 
 -- only the refusal is given, and what is held doesn't change
 abbrev pub IsRefused : Option Call → Id → UserCommand → Taken → Type 0
@@ -79,4 +85,4 @@ IsRefused state event command taken = (refusal : Refusal)
 abbrev pub EachCommandIsAnswered : Type 0
 EachCommandIsAnswered = (calls : Calls) (state : Option Call) (event : Id) (command : UserCommand)
     (now : ℕ) → let taken = call_step calls state (Some (event, User command)) now in
-    IsRefused state event command taken ⊎ GivesOne command taken.1
+    IsRefused state event command taken ⊎ GivesOne (side_held state).clients command taken.1

@@ -88,8 +88,9 @@ pub fn the_server_side_only_answers()
 {}
 
 /// Whatever came to a call: the outcome of a client request that is held (a timeout, a failure to
-/// send, or a final response other than a 2xx to an INVITE) closes it at once. The user is told, and
-/// it is no longer held (RFC 3261, sections 8.1.3.1 and 17.1).
+/// send, or a final response other than a 2xx to an INVITE) closes it at once. The user is told
+/// which, with the status of a response, and it is no longer held (RFC 3261, sections 8.1.3.1 and
+/// 17.1).
 pub fn an_outcome_closes_its_request()
     ensures { OutcomeCloses }
 {}

@@ -74,6 +74,12 @@ made_copies request status reason tag = record {
   cseq = refl;
 }
 
+-- if the user answered, he named this id
+abbrev pub Names : {config : Config} {rounds : List Round} {request response : Message}
+    {status : ℕ} → Id → IsAnswered config rounds request status response → Type 0
+Names id (ByUser responds) = responds.respond.id ≡ id
+Names id (ByAgent why bare) = Unit {0}
+
 module _ (config : Config) (rounds : List Round) (Came : Message → Type 0) where
   -- ---- each answer
 
@@ -89,16 +95,17 @@ module _ (config : Config) (rounds : List Round) (Came : Message → Type 0) whe
     pub made : List ℕ
     pub tag_is : arrival.tag ≡ local_tag_of arrival.request made
 
-  -- an answer of the user or of the agent itself to this request, which came
-  pub record IsAnswerTo (request message : Message) (status : ℕ) : Type 0 where
+  -- an answer of the user or of the agent itself to this request, which came under this id
+  pub record IsAnswerTo (id : Id) (request message : Message) (status : ℕ) : Type 0 where
     pub is_request : is_request_message request ≡ true
     pub came : Came request
     pub copies : IsResponseTo request message
     pub answered : IsAnswered config rounds request status message
+    pub names : Names id answered
 
   abbrev pub AnswersTo : Arrival → Message → Type 0
   AnswersTo arrival message = (status : ℕ) → status_of message.start ≡ Some status
-      → IsAnswerTo arrival.request message status
+      → IsAnswerTo arrival.id arrival.request message status
 
   -- such an answer to some request
   pub record IsAnswer (message : Message) (status : ℕ) : Type 0 where
@@ -109,9 +116,9 @@ module _ (config : Config) (rounds : List Round) (Came : Message → Type 0) whe
   Answers message = (status : ℕ) → status_of message.start ≡ Some status
       → IsAnswer message status
 
-  to_one : (request message : Message) (status : ℕ) → IsAnswerTo request message status
-      → IsAnswer message status
-  to_one request message status answer = record {
+  to_one : (id : Id) (request message : Message) (status : ℕ)
+      → IsAnswerTo id request message status → IsAnswer message status
+  to_one id request message status answer = record {
     request = record {
       request = request;
       is_request = answer.is_request;
@@ -124,23 +131,25 @@ module _ (config : Config) (rounds : List Round) (Came : Message → Type 0) whe
   any_answer : (arrival : Arrival) (message : Message) → AnswersTo arrival message
       → Answers message
   any_answer arrival message answers status is =
-      to_one arrival.request message status (answers status is)
+      to_one arrival.id arrival.request message status (answers status is)
 
-  itself : (request response : Message) (status other : ℕ) → Some status ≡ Some other
+  abbrev itself : (request response : Message) (status other : ℕ) → Some status ≡ Some other
       → AnswersItself config rounds request status → response.body ≡ []
       → IsAnswered config rounds request other response
   itself request response status other is why bare =
       ByAgent (subst (AnswersItself config rounds request) (same_Some status other is) why) bare
 
-  own_says : (status : ℕ) (reason : List ℕ) (request : Message) (tag : List ℕ) → Came request
-      → is_request_message request ≡ true → AnswersItself config rounds request status
+  own_says : (status : ℕ) (reason : List ℕ) (id : Id) (request : Message) (tag : List ℕ)
+      → Came request → is_request_message request ≡ true
+      → AnswersItself config rounds request status
       → (other : ℕ) → Some status ≡ Some other
-      → IsAnswerTo request (response_of request status reason tag) other
-  own_says status reason request tag came is_request why other is = record {
+      → IsAnswerTo id request (response_of request status reason tag) other
+  own_says status reason id request tag came is_request why other is = record {
     is_request = is_request;
     came = came;
     copies = made_copies request status reason tag;
     answered = itself request (response_of request status reason tag) status other is why refl;
+    names = tt;
   }
 
   module _ (call_id : List ℕ) where
@@ -151,7 +160,7 @@ module _ (config : Config) (rounds : List Round) (Came : Message → Type 0) whe
         → Brought arrival → AnswersItself config rounds arrival.request status
         → AnswersTo arrival (response_of arrival.request status reason tag)
     own_reply status reason arrival tag came why =
-        own_says status reason arrival.request tag came.came came.is_request why
+        own_says status reason arrival.id arrival.request tag came.came came.is_request why
 
     cancelled : (invite cancel : Arrival) → Brought invite
         → Cancels Brought cancel invite
@@ -184,6 +193,7 @@ module _ (config : Config) (rounds : List Round) (Came : Message → Type 0) whe
           cseq = refl;
         };
         answered = itself arrival.request _ 420 other is (BadExtension refl unknown) refl;
+        names = tt;
       };
       no_dialog = λ arrival came is. own_reply 481 (codes "Call/Transaction Does Not Exist")
           arrival arrival.tag came (NoDialog refl is);
@@ -235,6 +245,7 @@ module _ (config : Config) (rounds : List Round) (Came : Message → Type 0) whe
             body_is = sym (was_sent local held respond).body;
             sent_status = is;
           };
+          names = named;
         }
 
     command_gives : (front : List (Timed CallItem)) (now : ℕ) (event : Id)
@@ -371,8 +382,8 @@ module _ (config : Config) (rounds : List Round) (Came : Message → Type 0) whe
         absurd (no_ack response text.0 status is (text.2).request (text.2).method text.1)
     answered response (Trying key id request reply_to given asks same) status is =
         subst Answers (sym same)
-        (λ other so. to_one request (response_of request 100 (codes "Trying") (codes "")) other
-        (own_says 100 (codes "Trying") request (codes "")
+        (λ other so. to_one id request (response_of request 100 (codes "Trying") (codes "")) other
+        (own_says 100 (codes "Trying") id request (codes "")
         (came.transactions key id request reply_to given) asks (Proceeds refl) other so))
         status is
     answered response (Acknowledges key id other call_id invite answer to reply_to given heard

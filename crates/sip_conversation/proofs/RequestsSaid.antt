@@ -66,7 +66,7 @@ use Rattle.sip_conversation.proofs.CameUps.{request_first}
 use Rattle.sip_conversation.proofs.OneCallId.{lower}
 use Rattle.sip_conversation.proofs.OneOrigin.{one_request, said_starts}
 use Rattle.sip_conversation.proofs.ToldCallId.{came_same as came_branch}
-use Rattle.sip_conversation.proofs.Answered.{AnswersTo, CameTo, own, request_came, user_answers}
+use Rattle.sip_conversation.proofs.Answered.{AnswersTo, CameTo, Names, own, request_came, user_answers}
 use Rattle.sip_conversation.proofs.Fronts.{carried_to, keeps_to, peer_rounds, sent_before}
 use Rattle.sip_conversation.proofs.GivenTold.{OutTells, notice_given}
 use Rattle.sip_conversation.proofs.HeardUps.{Came, InputHeard, all_heard}
@@ -196,11 +196,13 @@ module _ (config : Config) (rounds : List Round) (invite : Message) where
       subst IsNone (sym same) (λ success. absurd cc)
   none_itself status is (OutOfOrder same why) = subst IsNone (sym same) (λ success. absurd cc)
 
-  user_accepts : (status : ℕ) (response : Message) → is_invite invite ≡ true
-      → is_success status ≡ true → IsAnswered config rounds invite status response
-      → RespondsTo config rounds invite status response
-  user_accepts status response is success (ByUser responds) = responds
-  user_accepts status response is success (ByAgent why none) =
+  user_accepts : (status : ℕ) (response : Message) (id : Id) → is_invite invite ≡ true
+      → is_success status ≡ true
+      → (answered : IsAnswered config rounds invite status response) → Names id answered
+      → (responds : RespondsTo config rounds invite status response)
+      × (responds.respond.id ≡ id)
+  user_accepts status response id is success (ByUser responds) names = (responds, names)
+  user_accepts status response id is success (ByAgent why none) names =
       absurd (none_itself status is why success)
 
 -- ---- what comes from the other side
@@ -376,7 +378,9 @@ module _ (configs : Side → Config) (fair : IsFair configs) (before : List Turn
         (str_eq_ignore_ascii_case (tag_of ack.from) (tag_of held.request.from))
         (ack.cseq.number == held.request.cseq.number) acks.awaits in
         let success = accepted held held.success acks.keeps.success parts.1 in
-        let answer = success.1.given success.1.status success.1.status_is in record {
+        let answer = success.1.given success.1.status success.1.status_is in
+        let user = user_accepts here rounds held.request success.1.status success.0 held.id
+        parts.0 success.1.success answer.answered answer.names in record {
           invite = held.request;
           up = came.up;
           came = came.handed;
@@ -388,8 +392,8 @@ module _ (configs : Side → Config) (fair : IsFair configs) (before : List Turn
           copies = answer.copies;
           status = success.1.status;
           success = success.1.success;
-          answered = user_accepts here rounds held.request success.1.status success.0
-              parts.0 success.1.success answer.answered;
+          answered = user.0;
+          names = user.1;
           dialog =
               let to = same_lower (tag_of ack.to) held.tag parts.2
               ∙ ap str_to_ascii_lowercase (sym (success_tag held success.0 came success.1)) in
@@ -428,6 +432,7 @@ module _ (configs : Side → Config) (fair : IsFair configs) (before : List Turn
             status = invite.status;
             success = invite.success;
             answered = invite.answered;
+            names = invite.names;
             dialog = (λ i. dialog_id_of_tags (same.to i) (same.from i)) ∙ invite.dialog;
           };
         }

@@ -63,8 +63,8 @@ pub record IsMadeByTransaction (config : Config) (rounds : List Round) (ack : Me
     pub made : ack ≡ ack_of invite response
 
 -- In these rounds an INVITE came up under this id to the call of this Call-ID, and its user
--- answered it with a 2xx. The ACK has the CSeq number of the INVITE, and is in the dialog of the
--- tags of that 2xx (RFC 3261, sections 13.2.2.4 and 13.3.1.4).
+-- answered it under this id with a 2xx. The ACK has the CSeq number of the INVITE, and is in the
+-- dialog of the tags of that 2xx (RFC 3261, sections 13.2.2.4 and 13.3.1.4).
 pub record IsForInvite (config : Config) (rounds : List Round) (call_id : List ℕ) (id : Id)
     (ack : Message) : Type 0 where
   pub invite : Message
@@ -79,6 +79,7 @@ pub record IsForInvite (config : Config) (rounds : List Round) (call_id : List �
   pub status : ℕ
   pub success : is_success status ≡ true
   pub answered : RespondsTo config rounds invite status response
+  pub names : answered.respond.id ≡ id
   pub dialog : dialog_id_of_tags (tag_of ack.to) (tag_of ack.from)
       ≡ dialog_id_of_tags (tag_of response.to) (tag_of response.from)
 
