@@ -2,7 +2,7 @@
 //! of it, and a journal in which one of those that are up is missing.
 #![tactic(auto)]
 
-use sip_compaction::{Compacted, compact, leaves_the_same};
+use sip_compaction::{compact, leaves_the_same};
 use sip_message::Spread;
 use std::{env, fs, io};
 
@@ -31,16 +31,9 @@ fn main(rt: HostRuntime) -> io::Result<()> {
         WORKERS,
         Spread,
     ) {
-        Ok(
-            Some(
-                Compacted {
-                    text: shorter,
-                    agent,
-                },
-            ),
-        ) => {
-            let (transactions, calls) = agent.live();
-            println!(rt; "{} bytes, {} compacted", text.len(), shorter.len())?;
+        Ok(Some(compacted)) => {
+            let (transactions, calls) = compacted.agent.live();
+            println!(rt; "{} bytes, {} compacted", text.len(), compacted.text.len())?;
             println!(rt; "{transactions} transactions, {calls} calls")?;
         }
         Ok(None) => println!(rt; "another agent")?,
