@@ -17,9 +17,8 @@ import os
 import secrets
 import signal
 import sys
+from importlib import import_module
 from typing import Any, Callable, Dict, List, Optional, Tuple, Union
-
-import redis  # type: ignore[import]
 
 from sip_ua import (
     AckNotice,
@@ -37,6 +36,9 @@ from sip_ua import (
 )
 from sip_ua_journal import Resumed, agent_of, head_of, run_again
 from sip_ua_udp import Endpoint, open_resumed
+
+# Its types are as they are installed, or there are none.
+redis: Any = import_module("redis")
 
 LEASE_MS = 1000
 RENEWED_S = 0.25
