@@ -107,8 +107,8 @@ fn told(
 
 fn are_of_each_agent(outputs: &[AgentOutput]) -> bool {
     match outputs {
-        [first, dropped, second] => {
-            is_request(first, 0, 2) && is_drop(dropped) && is_request(second, 1, 1)
+        [dropped, first, second] => {
+            is_drop(dropped) && is_request(first, 0, 2) && is_request(second, 1, 1)
         }
         _ => false,
     }
