@@ -1,5 +1,5 @@
 -- Maps of which each has the states of the other have the same states.
-use Rattle.std.proofs.Common.{◌≡◌, List, refl, sym, ◌∙◌, ap, subst}
+use Rattle.std.proofs.Common.{◌≡◌, List, refl, sym, ◌∙◌, subst}
 use Rattle.std.specs.Prelude.{◌↔◌, All, Bool, IsTrue, Option, None, Some}
 use Rattle.std.proofs.lemmas.List.Elements.{All-contains}
 use Rattle.std.proofs.lemmas.Map.Lookups.{CmpEqualImpliesEq}

@@ -12,8 +12,8 @@ const FINAL: u16 = 200;
 /// The lowest status above those of a 2xx.
 const ABOVE_SUCCESS: u16 = 300;
 
-/// How long after its last event or notice a call with nothing open may still hold something, in ms.
-/// Each timer of a transaction ends within 64*T1, which is 32 s, or within T4 after that.
+/// How long after its last event or notice a call with nothing open may still hold something, in
+/// ms. Each timer of a transaction ends within 64*T1, which is 32 s, or within T4 after that.
 const LINGER: u64 = 128_000;
 
 /// The tags of a dialog.
@@ -163,8 +163,8 @@ impl CallRecord {
         Ok(())
     }
 
-    // A response to one's own request came. Of a request that had its outcome only an INVITE can get
-    // another 2xx, which makes another dialog (RFC 3261, section 13.2.2.4).
+    // A response to one's own request came. Of a request that had its outcome only an INVITE can
+    // get another 2xx, which makes another dialog (RFC 3261, section 13.2.2.4).
     fn take_response(&mut self, id: Id, status: u16, tags: DialogTags) -> Result<(), AllocError> {
         if status < FINAL {
             return Ok(());

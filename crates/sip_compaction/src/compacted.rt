@@ -21,9 +21,9 @@ pub struct Compacted<C: OneCut> {
     pub agent: Agent<C>,
 }
 
-/// Compacts a journal that three readers read from its beginning. None if the shorter journal leaves
-/// another agent than the longer one: then the longer one is needed. What is held in memory is the
-/// shorter journal, and twice what an agent holds.
+/// Compacts a journal that three readers read from its beginning. None if the shorter journal
+/// leaves another agent than the longer one: then the longer one is needed. What is held in memory
+/// is the shorter journal, and twice what an agent holds.
 ///
 /// # Errors
 ///

@@ -21,10 +21,11 @@ struct Choice {
     last: u64,
 }
 
-/// Reads a journal twice, from two readers, and writes a shorter one. It begins with the first round
-/// of a call of which something may be held at the end, and keeps the events of such calls, and the
-/// last round as a whole. So it leaves an agent that holds the same, unless two calls share a
-/// transaction: `leaves_the_same` tells. It holds in memory what the agent holds, and one round.
+/// Reads a journal twice, from two readers, and writes a shorter one. It begins with the first
+/// round of a call of which something may be held at the end, and keeps the events of such calls,
+/// and the last round as a whole. So it should leave an agent that holds the same, unless two calls
+/// share a transaction: `leaves_the_same` tells. It holds in memory what the agent holds, and one
+/// round.
 ///
 /// # Errors
 ///

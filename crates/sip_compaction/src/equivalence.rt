@@ -34,8 +34,9 @@ pub fn leaves_the_same<T: Threads + Sync, L: CountedRead, S: CountedRead, C: One
     requires some_worker { 0 < workers }
     requires most_workers { workers ≤ 64 }
 
-    // The agent stands for the rounds of the long journal, though it ran those of the short one. So
-    // by the clause of `Agent::run_round` each round that follows is answered as after the long one.
+    // The agent stands for the rounds of the long journal, though it ran those of the short one.
+    // So by the clause of `Agent::run_round` each round that follows is answered as after the long
+    // one.
     ensures long { IfOk result (λ given. IfSome given (λ agent. IfSome (L.remaining long.old)
         (StandsForFile C.shard_of Session agent))) }
     ensures short { IfOk result (λ given. IfSome given (λ agent. IfSome (S.remaining short.old)

@@ -15,8 +15,8 @@ use std::io;
 use std::thread::Threads;
 
 /// The agent that has run all rounds of a file of this kind, of any length, in `shards` shards, cut
-/// by `cut`, on up to `workers` workers. What the rounds gave is thrown away. Each round is read and
-/// run before the next one is read.
+/// by `cut`, on up to `workers` workers. What the rounds gave is thrown away. Each round is read
+/// and run before the next one is read.
 ///
 /// # Errors
 ///

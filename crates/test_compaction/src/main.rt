@@ -1,5 +1,5 @@
-//! Compacts a stored journal of nine calls that are over and three that are up, and checks what came
-//! of it, and a journal in which one of those that are up is missing.
+//! Compacts a stored journal of nine calls that are over and three that are up, and checks what
+//! came of it, and a journal in which one of those that are up is missing.
 #![tactic(auto)]
 
 use sip_compaction::{compact, leaves_the_same};

@@ -1,5 +1,5 @@
 -- Shards hold the same if each holds the same as the other one at its place.
-use Rattle.std.proofs.Common.{◌≡◌, true, arith, length, refl, rules}
+use Rattle.std.proofs.Common.{arith, refl, rules}
 use Rattle.std.specs.Prelude.{IsTrue}
 use Rattle.std.proofs.lemmas.Grind.{common_steps}
 use Rattle.keyed_machine.specs.SameTables.{HoldTheSame}

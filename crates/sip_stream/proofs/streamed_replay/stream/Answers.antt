@@ -54,10 +54,12 @@ loop-init g c = (
       c.in_ok-config.ensures.found)
       (λ version after begins.
       c.in_ok-head.ensures version after (c.deref-2.ensures.value ∙ begins))
-      (from_start _ _ _ _ c.new-input.ensures c.in_ok-lines.ensures.given) c.in_ok-lines.ensures.next
+      (from_start _ _ _ _ c.new-input.ensures c.in_ok-lines.ensures.given)
+      c.in_ok-lines.ensures.next
       (subst (λ t. length t ≤ 2 ^ 26) c.deref.ensures.value c.in_ok-config.ensures.size)
       c.in_ok-streaming.ensures.stands c.in_ok-streaming.ensures.first (search rules)
-      c.in-Ok.ensures.all c.in_ok-lines.ensures.input c.in-Ok.ensures.output c.in-Ok.ensures.flushed,
+      c.in-Ok.ensures.all c.in_ok-lines.ensures.input c.in-Ok.ensures.output
+      c.in-Ok.ensures.flushed,
   c.in_ok-streaming.ensures.count,
 )
 
@@ -85,8 +87,8 @@ returns-then-is_empty-clause-stands g c =
     eqb-true lines.len 0 (sym c.is_empty.ensures ∙ c.if-is_empty.true) in
     let none : lines.items ≡ [] =
     nil_from_length lines.items (omega (arith, lines.ok.0, empty)) in
-    stands_for_file g.C.Cut.shard_of c.args.kind c.loop.invariant.0 c.into_agent.result _ lines.items
-    c.into_agent.ensures c.in_ok-lines-2.ensures.given none (c.in_ok-lines-2.ensures.end none)
+    stands_for_file g.C.Cut.shard_of c.args.kind c.loop.invariant.0 c.into_agent.result _
+    lines.items c.into_agent.ensures c.in_ok-lines-2.ensures.given none (c.in_ok-lines-2.ensures.end none)
 
 pub returns-in_err-round-clause-ends : goal.returns-in_err-round-clause-ends
 returns-in_err-round-clause-ends g c =
@@ -120,8 +122,8 @@ loop-preserved g c =
           c.in_ok-lines-2.ensures.given c.in_ok-lines-2.ensures.next c.in_ok-lines-2.ensures.input
           c.in_ok-round.round
           (read_as c.args.kind c.in_ok-round.round _ _ text c.in_ok-round.ensures.found)
-          (fits_as _ _ text c.in_ok-round.ensures.size) c.run.new.self.agent c.run.new.self.first _ _ _
-          c.run.ensures.same
+          (fits_as _ _ text c.in_ok-round.ensures.size) c.run.new.self.agent
+          c.run.new.self.first _ _ _ c.run.ensures.same
           c.in_ok-run.ensures.goes_on c.in_ok-run.ensures.output c.in_ok-run.ensures.flushed,
       c.in_ok-run.ensures.count ∙ c.loop.invariant.1,
     )

@@ -1,5 +1,5 @@
--- The loop of `stream`: the rounds so far were run, and their output file was written. The agent has
--- as many shards as are asked for.
+-- The loop of `stream`: the rounds so far were run, and their output file was written. The agent
+-- has as many shards as are asked for.
 use Rattle.std.specs.Prelude.{◌≡◌}
 use Rattle.std.specs.Io.KnownBytes.{prepend_known}
 use Rattle.sip_round.specs.AgentState.{shard_count}
