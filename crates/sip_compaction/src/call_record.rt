@@ -13,8 +13,8 @@ const FINAL: u16 = 200;
 const ABOVE_SUCCESS: u16 = 300;
 
 /// How long after its last event or notice a call with nothing open may still hold something, in
-/// ms. Each timer of a transaction ends within 64*T1, which is 32 s, or within T4 after that.
-const LINGER: u64 = 128_000;
+/// ms. Each timer of a transaction ends within 64*T1, which is 32 s, or within T4, 5 s, after that.
+const LINGER: u64 = 37_000;
 
 /// The tags of a dialog.
 #[derive(PartialEq, Eq, PartialOrd, Ord, Drop)]

@@ -10,7 +10,7 @@ use sip_message::Spread;
 use sip_stream::StreamFault;
 use sip_udp::UaFault;
 use std::alloc::Global;
-use std::fs::{File, OpenOptions};
+use std::fs::{self, File, OpenOptions};
 use std::io::{self, Write};
 use std::rt::Files;
 use std::thread::Threads;
@@ -41,12 +41,15 @@ pub(crate) fn compact_by<'a, T: Threads + Host, E: Write>(
         Spread,
     );
     match compacted {
-        Ok(Some(compacted)) => written(created(rt, words)?.write_all(&compacted.text), words),
+        Ok(Some(compacted)) => {
+            let end = created(rt, words)?.write_all(&compacted.text);
+            written(rt, end, words)
+        }
         Ok(None) => {
             let _ = writeln!(errors, "ua: no shorter journal was found");
             let mut whole = opened(rt, words)?;
             let copied = io::copy(&mut whole, &mut created(rt, words)?);
-            written(copied.map(|_| ()), words)
+            written(rt, copied.map(|_| ()), words)
         }
         Err(fault) => Err(failure_of(fault)),
     }
@@ -70,11 +73,18 @@ fn created<'a, T: Files>(rt: &T, words: CompactWords<'a>) -> Result<T::File, Fai
     }
 }
 
-// How the writing of the new file ended.
-fn written<'a>(end: io::Result<()>, words: CompactWords<'a>) -> Result<(), Failure<'a>> {
+// How the writing of the new file ended. A part of a journal doesn't stay.
+fn written<'a, T: Files>(
+    rt: &T,
+    end: io::Result<()>,
+    words: CompactWords<'a>,
+) -> Result<(), Failure<'a>> {
     match end {
         Ok(()) => Ok(()),
-        Err(error) => Err(bad_file(UaFault::Output, "--into", words.into, error)),
+        Err(error) => {
+            let _ = fs::remove_file(rt, words.into);
+            Err(bad_file(UaFault::Output, "--into", words.into, error))
+        }
     }
 }
 
