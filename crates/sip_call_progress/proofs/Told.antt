@@ -1,8 +1,7 @@
--- When the user is told of a response, and what the server side of a call gives.
-use Rattle.std.proofs.Common.{◌≡◌, ℕ, Bool, true, false, ◌||◌, List, [], ◌∷◌, refl, sym, subst, ◌∙◌}
-use Rattle.std.specs.Prelude.{Option, None, Some, IfSome, if◌then◌else◌}
-use Rattle.std.specs.List.{AllByRecursion, list_any}
-use Rattle.std.proofs.lemmas.Bool.{false≢true}
+-- What the server side of a call gives, by a test of its outputs.
+use Rattle.std.proofs.Common.{◌≡◌, ℕ, true, List, [], ◌∷◌, refl, sym, subst}
+use Rattle.std.specs.Prelude.{Option, None, Some, IfSome}
+use Rattle.std.specs.List.{AllByRecursion}
 use Rattle.sip_message.specs.declared.id.Id.{Id}
 use Rattle.sip_message.specs.declared.message.Message.{Message}
 use Rattle.sip_transactions.specs.declared.output.UpKind.{UpKind}
@@ -11,12 +10,8 @@ use Rattle.sip_transactions.specs.declared.output.Up.{Up as AnUp}
 use Rattle.sip_user.specs.declared.command.Respond.{Respond as RespondCommand}
 use Rattle.sip_user.specs.declared.command.UserCommand.TheVariants as user
 use Rattle.sip_user.specs.declared.item.CallOut.{CallOut}
-use Rattle.sip_user.specs.declared.item.CallOut.TheVariants as out
 use Rattle.sip_user.specs.declared.item.Item.{Item}
 use Rattle.sip_user.specs.declared.item.Item.TheVariants.{Up, User}
-use Rattle.sip_user.specs.declared.notice.Notice.{Notice}
-use Rattle.sip_user.specs.declared.notice.Notice.TheVariants as notice
-use Rattle.sip_held_dialogs.specs.Ids.{is_id}
 use Rattle.sip_held_dialogs.proofs.Each.{both}
 use Rattle.sip_served.specs.declared.held_request.HeldRequest.{HeldRequest}
 use Rattle.sip_served.specs.declared.held_request.Success.{Success}
@@ -26,22 +21,14 @@ use Rattle.sip_served.specs.State.{State, ServedTaken}
 use Rattle.sip_served.specs.Step.{kind_taken, server_item_taken}
 use Rattle.sip_served.specs.Tick.{tick_taken}
 use Rattle.sip_served.proofs.ArrivalRules.{item_same}
-use Rattle.sip_served.proofs.ServedAnswers.{AllowsServed, IsOther, KeepsGiven, KindGiven, OwnAnswers, StateGiven, kind_fits, respond_fits, server_tick}
+use Rattle.sip_served.proofs.ServedAnswers.{AllowsServed, KeepsGiven, KindGiven, OwnAnswers, StateGiven, kind_fits, respond_fits, server_tick}
 use Rattle.sip_served.proofs.TickRules.{tick_same}
-use Rattle.sip_clients.specs.declared.client.Client.{Client}
-use Rattle.sip_clients.specs.Outputs.{start_command}
 use Rattle.sip_clients.specs.Tick.{clients_ticked}
 use Rattle.sip_clients.proofs.ClientOuts.{Allows, clients_tick}
 use Rattle.sip_calls.specs.declared.call.Call.{Call}
-use Rattle.sip_calls.specs.declared.calls.Calls.{Calls}
-use Rattle.sip_calls.specs.Call.{CallItem, Taken, call_step}
 use Rattle.sip_calls.specs.Sides.{by_server, side_of}
-use Rattle.sip_calls.specs.Steps.Call.{step_taken, ticked}
-use Rattle.sip_calls.proofs.SameSteps.{same_step}
-use Rattle.sip_call_progress.specs.Told.{ItemsOnlyAnswer, TicksOnlyAnswer, ToldAsTheyCome, brings_response, is_response, only_answers, tells_response}
-use Rattle.sip_call_progress.proofs.EachItem.{Passes, item_passes}
-
--- ---- the server side, by a test of its outputs
+use Rattle.sip_calls.specs.Steps.Call.{ticked}
+use Rattle.sip_call_progress.specs.Told.{ItemsOnlyAnswer, TicksOnlyAnswer, only_answers}
 
 -- nothing is required of requests and answers
 abbrev pub Any : Message → Type 0
@@ -139,89 +126,3 @@ pub ticks_only_answer : TicksOnlyAnswer
 ticks_only_answer state now =
     subst (λ (taken : ServedTaken). AllByRecursion Answers taken.1) (sym (tick_same state now))
     (tick_passes Answers answers_allowed state now)
-
--- ---- notices of responses
-
-module _ (id : Id) (brought : Bool) where
-  -- it tells of a response only if one was brought
-  abbrev Fits : CallOut → Type 0
-  Fits out = tells_response id out ≡ true → brought ≡ true
-
-  abbrev AllFit : List CallOut → Type 0
-  AllFit outs = AllByRecursion Fits outs
-
-  never : false ≡ true → brought ≡ true
-  never e = absurd (false≢true e)
-
-  started_fits : (event : Id) (client : Client) → Fits (start_command event client)
-  unfolding start_command
-  started_fits event client = never
-
-  allows : Allows Fits
-  allows = record {
-    ended = λ held. never;
-    refusal = λ call_id place why. never;
-    sent = λ ack. never;
-    started = started_fits;
-  }
-
-  told_fits : (one : Notice) → IsOther one → Fits (out.Notice one)
-  told_fits (notice.Request call_id request method local_tag remote_tag body) other = never
-  told_fits (notice.Response call_id request status local_tag remote_tag body) other = absurd other
-  told_fits (notice.Ack call_id request body) other = never
-  told_fits (notice.Prack call_id request rseq body) other = never
-  told_fits (notice.Timeout call_id request) other = never
-  told_fits (notice.Failed call_id request) other = never
-  told_fits (notice.NoAck call_id request) other = never
-  told_fits (notice.NoPrack call_id request) other = never
-  told_fits (notice.Cancel call_id request) other = never
-  told_fits (notice.Ended call_id local_tag remote_tag) other = never
-  told_fits (notice.Refused call_id place why) other = never
-
-  served_allowed : AllowsServed Fits Any
-  served_allowed = record {
-    told = told_fits;
-    answer = λ request key {message} here. never;
-  }
-
-  passes : Passes Fits
-  passes = record {
-    allows = allows;
-    gives_up = λ id client. never;
-    timeout = λ call_id id. never;
-    failed = λ call_id id. never;
-    kinds = kind_passes Fits served_allowed;
-    responds = respond_passes Fits served_allowed;
-  }
-
-  -- a response brings itself
-  taken_fits : (calls : Calls) (state : Option Call) (input : Option CallItem) (now : ℕ)
-      → (brings_response id input ≡ true → brought ≡ true)
-      → AllFit (step_taken calls state input now).1
-  taken_fits calls None None now brings = tt
-  taken_fits calls (Some call) None now brings =
-      ticked_passes Fits allows served_allowed call now
-  taken_fits calls state (Some (event, item)) now brings =
-      item_passes Fits passes calls state event item now
-      (λ up response came is name status has same.
-      brings ((λ i. brings_response id (Some (event, came i)))
-      ∙ (λ i. if is_response (is i) then is_id id up.id else false) ∙ same))
-
-  any_fits : (outs : List CallOut) → AllFit outs → list_any (tells_response id) outs ≡ true
-      → brought ≡ true
-  any_fits [] all told = never told
-  any_fits (one ∷ outs) all told =
-      by_one (tells_response id one) all.0 told (any_fits outs all.1)
-    where
-      by_one : (b : Bool) → (b ≡ true → brought ≡ true)
-          → (b || list_any (tells_response id) outs) ≡ true
-          → (list_any (tells_response id) outs ≡ true → brought ≡ true) → brought ≡ true
-      by_one true fits told later = fits refl
-      by_one false fits told later = later told
-
-pub told_as_they_come : ToldAsTheyCome
-told_as_they_come calls state input now id told =
-    any_fits id (brings_response id input) (call_step calls state input now).1
-    (subst (λ (taken : Taken). AllFit id (brings_response id input) taken.1)
-    (sym (same_step calls state input now))
-    (taken_fits id (brings_response id input) calls state input now (λ brings. brings))) told

@@ -1,9 +1,10 @@
--- The user is told of a response once, as it came.
+-- The user is told of a response by the input that brings it, once, as it came.
 use Rattle.std.proofs.Common.{◌≡◌, ◌⊎◌, inl, inr, ℕ, Bool, true, false, ◌+◌, not, ◌&&◌, ◌||◌, ◌==◌, cond, List, [], ◌∷◌, ◌++◌, refl, sym, ap, subst, ◌∙◌}
 use Rattle.std.specs.Prelude.{Option, None, Some, filter, fold, is_some, length, unwrap_or, if◌then◌else◌}
-use Rattle.std.specs.List.{AllByRecursion}
+use Rattle.std.specs.List.{AllByRecursion, list_any}
 use Rattle.std.specs.Map.{lookup, remove_entry, set_value}
 use Rattle.std.specs.Option.{option_map_or}
+use Rattle.std.proofs.lemmas.Bool.{false≢true}
 use Rattle.std.proofs.lemmas.List.Elements.{filter-append}
 use Rattle.sip_message.specs.declared.content.Content.{Content}
 use Rattle.sip_message.specs.declared.id.Id.{Id}
@@ -47,10 +48,10 @@ use Rattle.sip_clients.specs.Rules.Responses.{Outcome, accepted, asks_for, dialo
 use Rattle.sip_clients.proofs.ClientOuts.{Allows, early, end_told}
 use Rattle.sip_calls.specs.declared.call.Call.{Call}
 use Rattle.sip_calls.specs.declared.calls.Calls.{Calls}
-use Rattle.sip_calls.specs.Call.{Taken, call_step, event_of, received}
+use Rattle.sip_calls.specs.Call.{CallItem, Taken, call_step, event_of, received}
 use Rattle.sip_calls.specs.Sides.{side_of}
 use Rattle.sip_calls.proofs.SameSteps.{same_step}
-use Rattle.sip_call_progress.specs.Told.{IsAsItCame, ToldOnce}
+use Rattle.sip_call_progress.specs.Told.{IsAsItCame, ToldAsTheyCome, ToldOnce, brings_response, is_response, tells_response}
 use Rattle.sip_call_progress.proofs.Arrived.{as_received, of_state}
 use Rattle.sip_call_progress.proofs.EachItem.{Passes, item_passes}
 use Rattle.sip_call_progress.proofs.Told.{Any, kind_passes, respond_passes, ticked_passes}
@@ -328,3 +329,34 @@ told_once calls state (Some (event, User command)) now =
     (item_passes Silent passes calls state event (User command) now
     (λ up response came. absurd cc))))
 told_once calls state (Some (event, Up up)) now = up_told calls state event up now up.kind refl
+
+-- ---- one to the same request
+
+-- what is told of it is among what is told of any
+told_among : (id : Id) (outs : List CallOut)
+    → list_any (tells_response id) outs ≡ list_any (tells_response id) (told outs)
+told_among id [] = refl
+told_among id
+    (out.Notice (notice.Response call_id request status local_tag remote_tag body) ∷ outs) =
+    ap (λ b. is_id id request || b) (told_among id outs)
+told_among id (other ∷ outs) = told_among id outs
+
+brings_one : (id : Id) (input : Option CallItem) (told : List CallOut)
+    → (told ≡ []) ⊎ IsAsItCame input told → list_any (tells_response id) told ≡ true
+    → brings_response id input ≡ true
+brings_one id input told (inl none) tells =
+    absurd (false≢true (sym (ap (list_any (tells_response id)) none) ∙ tells))
+brings_one id input told (inr it) tells =
+    ap (brings_response id) it.came
+    ∙ (λ i. if is_response (it.brought i) then is_id id it.up.id else false)
+    ∙ sym (or_false (is_id id it.up.id)) ∙ sym (ap (list_any (tells_response id)) it.is) ∙ tells
+  where
+    or_false : (b : Bool) → (b || false) ≡ b
+    or_false true = refl
+    or_false false = refl
+
+pub told_as_they_come : ToldAsTheyCome
+told_as_they_come calls state input now id tells =
+    let outs = (call_step calls state input now).1 in
+    brings_one id input (told outs) (told_once calls state input now)
+    (sym (told_among id outs) ∙ tells)
