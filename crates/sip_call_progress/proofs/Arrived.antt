@@ -236,14 +236,13 @@ module _ (call : Call) (up : AnUp) (request : Message) (reply_to : Addr) (tag : 
 
 -- ---- a whole call
 
-of_state : Calls → Option Call → Call
+abbrev pub of_state : Calls → Option Call → Call
 of_state calls None = new_call calls.local
 of_state calls (Some call) = call
 
-as_received : (calls : Calls) (state : Option Call) (event : Id) (up : AnUp) (now : ℕ)
+pub as_received : (calls : Calls) (state : Option Call) (event : Id) (up : AnUp) (now : ℕ)
     → call_step calls state (Some (event, Up up)) now
     ≡ kept_of (received (of_state calls state) (event_of calls event now) up up.kind)
-unfolding of_state
 as_received calls None event up now = refl
 as_received calls (Some call) event up now = refl
 

@@ -1,6 +1,6 @@
 -- What a tick does by when: a request is removed, and the user is told that no ACK or no PRACK came
 -- (RFC 3261, sections 13.2.2.4 and 13.3.1.4; RFC 3262, section 3). Moments are in ms.
-use Rattle.std.specs.Prelude.{◌≡◌, ℕ, ◌+◌, ◌*◌, Bool, false, not, ◌&&◌, nat_le, map, filter, is_none, is_some, None, Some, Option}
+use Rattle.std.specs.Prelude.{◌≡◌, ℕ, ◌+◌, ◌*◌, Bool, false, not, ◌&&◌, ◌||◌, nat_le, map, filter, is_none, is_some, None, Some, Option}
 use Rattle.std.specs.List.{list_any}
 use Rattle.std.specs.Option.{option_map_or}
 use Rattle.sip_message.specs.declared.id.Id.{Id}
@@ -13,7 +13,7 @@ use Rattle.sip_served.specs.declared.held_request.HeldRequest.{HeldRequest}
 use Rattle.sip_clients.specs.declared.client.Client.{Client}
 use Rattle.sip_calls.specs.declared.call.Call.{Call}
 use Rattle.sip_calls.specs.declared.calls.Calls.{Calls}
-use Rattle.sip_calls.specs.Call.{call_step}
+use Rattle.sip_calls.specs.Call.{CallItem, call_step}
 use Rattle.sip_calls.specs.HeldRequests.{requests_held}
 use Rattle.sip_calls.specs.Provisionals.{side_held}
 
@@ -72,3 +72,9 @@ abbrev pub NoPrackTold : Type 0
 NoPrackTold = (calls : Calls) (call : Call) (now : ℕ) (id : Id)
     → list_any (tells_no_prack id) (call_step calls (Some call) None now).1
     ≡ list_any (λ held. is_id id held.id && lacks_prack now held) (call.served).requests
+
+-- whatever is held, no other input tells of either
+abbrev pub OnlyTicksTell : Type 0
+OnlyTicksTell = (calls : Calls) (state : Option Call) (input : CallItem) (now : ℕ) (id : Id)
+    → list_any (λ out. tells_no_ack id out || tells_no_prack id out)
+    (call_step calls state (Some input) now).1 ≡ false

@@ -1,7 +1,10 @@
 -- When the user is told of a response, and what the server side of a call gives.
-use Rattle.std.specs.Prelude.{◌≡◌, ℕ, Bool, true, false, List, Option, None, Some, if◌then◌else◌}
+use Rattle.std.specs.Prelude.{◌≡◌, ◌⊎◌, ℕ, Bool, true, false, List, [], ◌∷◌, Option, None, Some, filter, if◌then◌else◌}
 use Rattle.std.specs.List.{AllByRecursion, list_any}
 use Rattle.sip_message.specs.declared.id.Id.{Id}
+use Rattle.sip_message.specs.declared.message.Message.{Message}
+use Rattle.sip_message.specs.Party.{tag_of}
+use Rattle.sip_transactions.specs.declared.output.Up.{Up as AnUp}
 use Rattle.sip_transactions.specs.declared.output.UpKind.{UpKind}
 use Rattle.sip_transactions.specs.declared.output.UpKind.TheVariants as kind
 use Rattle.sip_user.specs.declared.item.CallOut.{CallOut}
@@ -13,6 +16,8 @@ use Rattle.sip_held_dialogs.specs.Ids.{is_id}
 use Rattle.sip_served.specs.Rules.Arrivals.{server_item}
 use Rattle.sip_served.specs.Rules.Ticks.{server_tick}
 use Rattle.sip_served.specs.State.{State}
+use Rattle.sip_clients.specs.Provisionals.{is_response as is_told}
+use Rattle.sip_clients.specs.Rules.Responses.{status_of}
 use Rattle.sip_calls.specs.declared.call.Call.{Call}
 use Rattle.sip_calls.specs.declared.calls.Calls.{Calls}
 use Rattle.sip_calls.specs.Call.{CallItem, call_step}
@@ -42,6 +47,25 @@ abbrev pub ToldAsTheyCome : Type 0
 ToldAsTheyCome = (calls : Calls) (state : Option Call) (input : Option CallItem) (now : ℕ) (id : Id)
     → list_any (tells_response id) (call_step calls state input now).1 ≡ true
     → brings_response id input ≡ true
+
+-- The input brings a response, and the user is told of it, once: of its request, and of its status,
+-- tags and body.
+pub record IsAsItCame (input : Option CallItem) (told : List CallOut) : Type 0 where
+  pub event : Id
+  pub up : AnUp
+  pub response : Message
+  pub status : ℕ
+  pub came : input ≡ Some (event, Up up)
+  pub brought : up.kind ≡ kind.Response response
+  pub has_status : status_of response.start ≡ Some status
+  pub is : told ≡ Notice (Response up.call_id up.id status (tag_of response.from)
+      (tag_of response.to) response.body) ∷ []
+
+-- Whatever is held: the user is told of no response, or once of the one that the input brings.
+abbrev pub ToldOnce : Type 0
+ToldOnce = (calls : Calls) (state : Option Call) (input : Option CallItem) (now : ℕ)
+    → let told = filter is_told (call_step calls state input now).1 in
+    (told ≡ []) ⊎ IsAsItCame input told
 
 -- ---- the server side
 

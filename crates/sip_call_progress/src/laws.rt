@@ -1,13 +1,13 @@
 //! Laws of progress of one call.
 
-ghost use Rattle.sip_call_progress.specs.Arrived.{OwnAnswered, ToldOrAnswered};
+ghost use Rattle.sip_call_progress.specs.Arrived.{CancelAnsweredBy487, OwnAnswered, ToldOrAnswered};
 ghost use Rattle.sip_call_progress.specs.Commanded.{EachCommandIsAnswered};
 ghost use Rattle.sip_call_progress.specs.Ending.{DialogGivenUp, EndingAddsNothing, EndingEnds, OthersAddNothing, RequestGivenUp, UserEndsAll};
-ghost use Rattle.sip_call_progress.specs.InTime.{ClientsRemoved, NoAckTold, NoPrackTold, RequestsRemoved};
+ghost use Rattle.sip_call_progress.specs.InTime.{ClientsRemoved, NoAckTold, NoPrackTold, OnlyTicksTell, RequestsRemoved};
 ghost use Rattle.sip_call_progress.specs.Outcomes.{CancelGoesOut, CancelWaits, OutcomeCloses, WaitingGoesOut};
 ghost use Rattle.sip_call_progress.specs.Rejections.{RejectionsAreAccepted};
 ghost use Rattle.sip_call_progress.specs.Rest.{AtRestAfterAll, NothingLeft};
-ghost use Rattle.sip_call_progress.specs.Told.{ItemsOnlyAnswer, TicksOnlyAnswer, ToldAsTheyCome};
+ghost use Rattle.sip_call_progress.specs.Told.{ItemsOnlyAnswer, TicksOnlyAnswer, ToldAsTheyCome, ToldOnce};
 
 /// Whatever is held under a Call-ID: a plain response of 300 to 699 to a held request of the peer
 /// that has no final response isn't refused. It goes out once, the early dialogs of an INVITE end,
@@ -52,11 +52,12 @@ pub fn removed_in_time()
 {}
 
 /// A tick tells the user that no ACK of a 2xx came, or no PRACK of a reliable provisional response,
-/// if it was sent 64*T1 ago or more, and not before (RFC 3261, section 13.3.1.4; RFC 3262, section
-/// 3).
+/// if it was sent 64*T1 ago or more, and not before. No other input tells of either (RFC 3261,
+/// section 13.3.1.4; RFC 3262, section 3).
 pub fn told_in_time()
     ensures ack { NoAckTold }
     ensures prack { NoPrackTold }
+    ensures ticks { OnlyTicksTell }
 {}
 
 /// Whatever is held under a Call-ID: the input that brings a request of the peer tells the user of
@@ -68,6 +69,13 @@ pub fn told_or_answered()
     ensures own { OwnAnswered }
 {}
 
+/// Whatever is held under a Call-ID: a CANCEL of an INVITE without a final response gets a 200.
+/// Then it does what a 487 of the user to the INVITE does: the 487 goes out, the same is held, and
+/// the same is told, and that the CANCEL came (RFC 3261, section 9.2).
+pub fn a_cancel_is_answered_by_487()
+    ensures { CancelAnsweredBy487 }
+{}
+
 /// Whatever is held under a Call-ID: a command of the user is refused, and changes nothing; or it
 /// gives what it asks for, once, and nothing else goes out.
 pub fn each_command_is_answered()
@@ -75,9 +83,11 @@ pub fn each_command_is_answered()
 {}
 
 /// Whatever is held under a Call-ID: the user is told of a response only by the input that brings
-/// one to the same request, and by no tick, command or other message.
+/// one to the same request, and by no tick, command or other message. It tells of that one alone,
+/// once, with its status, tags and body.
 pub fn responses_are_told_as_they_come()
-    ensures { ToldAsTheyCome }
+    ensures comes { ToldAsTheyCome }
+    ensures once { ToldOnce }
 {}
 
 /// The server side of a call gives notices and responses alone: it starts no transaction, so it

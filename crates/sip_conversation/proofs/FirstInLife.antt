@@ -104,5 +104,5 @@ first_in_life configs fair turns carried keep before after turn same counted cal
     (told_later configs call_id follows.invite follows.life (1, first_told) before turn
     first.before first.turn first.after first.turns_are first.side_is
     (subst (λ c. Contains (told_reliably configs first.before first.turn c follows.invite
-    follows.life) (1, first_told)) (reply.call few) follows.in_life)) in
+    follows.life) (1, first_told)) (reply.so.said.call_id_is few) follows.in_life)) in
     only_here configs call_id before turn life only follows.invite follows.life named 1 one

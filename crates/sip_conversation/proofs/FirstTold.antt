@@ -116,13 +116,15 @@ module _ (configs : Side → Config) where
         FollowsAs last call_id name = FollowsResponse configs last.before last.turn call_id name
             record { rseq = 1; cseq = response.cseq.number; method = codes "INVITE" }
 
-    notice_after : (rseq : ℕ) (one : CallOut) → IsSaidReliably configs turns s rseq one
-        → IsAfterTheFirst configs turns s rseq one
+  module _ (before : List Turn) (turn : Turn) (follow : PracksFollowResponses configs before) where
+    notice_after : (rseq : ℕ) (one : CallOut) → IsSaidReliably configs before turn rseq one
+        → IsAfterTheFirst configs before turn rseq one
     notice_after rseq
         (out.Notice (notice.Response call_id id status local_tag remote_tag body)) said =
         record {
           said = said;
-          first = λ more. told_first said.response.original (said.pracked more);
+          first = λ more.
+              told_first before follow turn.side said.response.original (said.pracked more);
         }
     notice_after rseq (out.Notice (notice.Request call_id id method local_tag remote_tag body))
         said = absurd said
@@ -146,10 +148,10 @@ first_is_told configs fair in_lives turns carried keep before after turn same ca
     let early = carried_before configs turns before after turn same carried in
     let rules = keeps_before configs turns before after turn same keep in
     all_go
-    {P = λ (told : ℕ × CallOut). IsSaidReliably configs before turn.side told.0 told.1}
-    {Q = λ (told : ℕ × CallOut). IsAfterTheFirst configs before turn.side told.0 told.1}
-    (λ told said. notice_after configs before (pracks_follow configs fair before early rules)
-    turn.side told.0 told.1 said)
+    {P = λ (told : ℕ × CallOut). IsSaidReliably configs before turn told.0 told.1}
+    {Q = λ (told : ℕ × CallOut). IsAfterTheFirst configs before turn told.0 told.1}
+    (λ told said. notice_after configs before turn (pracks_follow configs fair before early rules)
+    told.0 told.1 said)
     (told_reliably configs before turn call_id invite life)
     (provisionals_said configs fair in_lives turns carried keep before after turn same call_id
     invite life).said

@@ -52,7 +52,6 @@ use Rattle.sip_conversation.proofs.Provisionals.{IsReliablySo, said_reliably}
 use Rattle.sip_conversation.proofs.HeardReplies.{invite_answered, has_come, of_up, same_outs, told_so, longer, of_first}
 use Rattle.sip_conversation.proofs.RackedCalls.{HasRseq, IsTold, OutIsTold, WasTold, all_told, front_differ}
 use Rattle.sip_conversation.proofs.RepliesSaid.{IsFair}
-use Rattle.sip_conversation.proofs.ToldCallId.{own_reply}
 use Rattle.sip_conversation.proofs.ToldInLife.{told_in_life}
 
 -- ---- messages
@@ -132,7 +131,7 @@ module _ (configs : Side → Config) (fair : IsFair configs) (before : List Turn
   record IsTelling (call_id : List ℕ) (rack : RAck) (of : List ℕ) (id : Id) (status : ℕ)
       (local_tag remote_tag body : List ℕ) : Type 0 where
     pub of_is : of ≡ call_id
-    pub said : SaidReliably configs before turn.side rack.rseq status local_tag remote_tag body
+    pub said : SaidReliably configs before turn call_id rack.rseq status local_tag remote_tag body
     pub cseq : AreCounted local_config rounds_now
         → said.response.original.cseq.number ≡ rack.cseq
 
@@ -141,9 +140,8 @@ module _ (configs : Side → Config) (fair : IsFair configs) (before : List Turn
       rack.rseq rack.cseq) where
     -- the other side said the response that comes up, to that INVITE
     pub record IsReplySaid (status : ℕ) : Type 0 where
-      pub so : IsReliablySo configs fair before turn carried keep was.response rack.rseq status
-      pub call : AreCounted local_config rounds_now
-          → so.said.response.original.call_id ≡ call_id
+      pub so : IsReliablySo configs fair before turn carried keep call_id was.response rack.rseq
+          status
       pub cseq : AreCounted local_config rounds_now
           → so.said.response.original.cseq.number ≡ rack.cseq
       pub from : AreCounted local_config rounds_now
@@ -158,8 +156,10 @@ module _ (configs : Side → Config) (fair : IsFair configs) (before : List Turn
         let comes = has_come configs fair before turn call_id HasIt name rack.cseq was carried keep
         carried_so keep_so in
         let number = ap (λ o. provisional_number o response) was.status_is ∙ was.is in
+        let started = subst (λ c. IsStartedFor local_config rounds_now c was.up.id response)
+        (of_up configs fair before turn call_id HasIt name rack.cseq was) comes.started in
         let so = said_reliably configs fair before turn carried keep response comes.came rack.rseq
-        number status is in
+        number status is call_id was.up.id started in
         let reply = so.said.response in
         let begun = subst (IsStartedFor local_config rounds_now was.up.call_id was.up.id)
         (sym so.whole) comes.started in
@@ -167,9 +167,6 @@ module _ (configs : Side → Config) (fair : IsFair configs) (before : List Turn
         (tag_of response.from) (tag_of response.to) response.body reply begun in
         record {
           so = so;
-          call = λ few. (own_reply configs fair.calls before turn was.up.call_id was.up.id
-              reply.original status reply.status_is reply.request begun few).call
-              ∙ of_up configs fair before turn call_id HasIt name rack.cseq was;
           cseq = λ few. ap (λ (c : CSeq). c.number)
               (reply.request.copies.cseq ∙ (own few).alike.cseq) ∙ was.number_is;
           from = λ few. reply.request.copies.from ∙ (own few).alike.from;

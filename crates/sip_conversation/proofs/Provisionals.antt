@@ -8,6 +8,7 @@ use Rattle.sip_message.specs.declared.id.Id.{Id}
 use Rattle.sip_message.specs.Party.{tag_of}
 use Rattle.sip_message.specs.declared.message.Message.{Message}
 use Rattle.keyed_machine.specs.Machine.{Timed}
+use Rattle.sip_transactions.specs.declared.output.Up.{Up as AnUp}
 use Rattle.sip_transactions.specs.declared.output.UpKind.{UpKind}
 use Rattle.sip_transactions.specs.declared.output.UpKind.TheVariants as kind
 use Rattle.sip_held_dialogs.specs.declared.held_dialog.DialogReference.{DialogReference}
@@ -35,14 +36,16 @@ use Rattle.sip_conversation.specs.Answers.AnswersItself.{Accepts, BadExtension, 
 use Rattle.sip_conversation.specs.Answers.IsAnswered.{ByAgent, ByUser}
 use Rattle.sip_conversation.specs.Conversation.{Carried, Side, Turn, peer, rounds_of}
 use Rattle.sip_conversation.specs.Messages.{CallsKeepRules}
+use Rattle.sip_conversation.specs.Replies.{IsStartedFor}
 use Rattle.sip_conversation.specs.Provisionals.{IsSaidReliably, ProvisionalsToldAsSaid, SaidReliably, rseqs_told, told_from, told_with}
 use Rattle.sip_conversation.proofs.CallOuts.{InputFits, KindTells, NoticeTells, OutFits, ResponseTells, step_fits}
 use Rattle.sip_conversation.proofs.Fronts.{carried_before, carried_to, keeps_before, keeps_to}
 use Rattle.sip_conversation.proofs.OneTransaction.{KindCame}
 use Rattle.sip_conversation.proofs.PracksSaid.{prack_said}
-use Rattle.sip_conversation.proofs.RepliesSaid.{Came, IsFair, response_said}
+use Rattle.sip_conversation.proofs.RepliesSaid.{Came, Comes as UpComes, IsFair, inputs_come, response_said, told_response}
+use Rattle.sip_conversation.proofs.StartedFor.{KindStarted}
 use Rattle.sip_conversation.proofs.Unchanged.{inputs_unchanged}
-use Rattle.sip_conversation.proofs.Ups.{ItemCame, TimedCame, UpCame}
+use Rattle.sip_conversation.proofs.Ups.{ItemCame, TimedCame}
 
 -- ---- their RSeqs
 
@@ -100,23 +103,29 @@ module _ (configs : Side → Config) (fair : IsFair configs) (before : List Turn
     (carried : Carried configs before) (keep : CallsKeepRules configs before) where
   abbrev Said : ℕ → List ℕ → Id → ℕ → List ℕ → List ℕ → List ℕ → Type 0
   Said rseq call_id id status local_tag remote_tag body =
-      SaidReliably configs before turn.side rseq status local_tag remote_tag body
+      SaidReliably configs before turn call_id rseq status local_tag remote_tag body
 
   abbrev Comes : Message → Type 0
   Comes message = Came configs fair before turn carried keep message
 
+  -- the transaction of what comes up was started under this Call-ID and this id
+  abbrev Started : List ℕ → Id → Message → Type 0
+  Started call_id id response = IsStartedFor (configs turn.side)
+      (rounds_of turn.side (before ++ turn ∷ [])) call_id id response
+
   -- ---- a response that comes
 
   -- the other side said the response that comes, exactly as it is
-  pub record IsReliablySo (response : Message) (rseq status : ℕ) : Type 0 where
-    pub said : SaidReliably configs before turn.side rseq status (tag_of response.from)
+  pub record IsReliablySo (call_id : List ℕ) (response : Message) (rseq status : ℕ) : Type 0 where
+    pub said : SaidReliably configs before turn call_id rseq status (tag_of response.from)
         (tag_of response.to) response.body
     pub whole : said.response.original ≡ response
 
   pub said_reliably : (response : Message) → Comes response → (rseq : ℕ)
       → provisional_number (status_of response.start) response ≡ Some rseq → (status : ℕ)
-      → status_of response.start ≡ Some status → IsReliablySo response rseq status
-  said_reliably response comes rseq number status is =
+      → status_of response.start ≡ Some status → (call_id : List ℕ) (id : Id)
+      → Started call_id id response → IsReliablySo call_id response rseq status
+  said_reliably response comes rseq number status is call_id id started =
       let so = response_said configs fair before turn carried keep response comes status is in
       let here : provisional_number (Some status) response ≡ Some rseq =
       ap (λ o. provisional_number o response) (sym is) ∙ number in
@@ -131,55 +140,69 @@ module _ (configs : Side → Config) (fair : IsFair configs) (before : List Turn
               (inputs_unchanged fair.transactions configs fair.addresses before carried keep
               (peer turn.side)) so.said.original so.said.said status rseq so.said.status_is
               numbered;
+          call_id_is = (told_response configs fair before turn carried keep call_id id response
+              status so started).call_id_is;
         };
         whole = so.whole;
       }
 
+  abbrev StartedSo : List ℕ → Id → Message → Type 0
+  StartedSo call_id id response =
+      (status : ℕ) → status_of response.start ≡ Some status → Started call_id id response
+
   said_so : (response : Message) → Comes response → (rseq : ℕ)
       → provisional_number (status_of response.start) response ≡ Some rseq
-      → (call_id : List ℕ) (id : Id) → ResponseTells (Said rseq) call_id id response
-  said_so response comes rseq number call_id id status is =
-      (said_reliably response comes rseq number status is).said
+      → (call_id : List ℕ) (id : Id) → StartedSo call_id id response
+      → ResponseTells (Said rseq) call_id id response
+  said_so response comes rseq number call_id id started status is =
+      (said_reliably response comes rseq number status is call_id id (started status is)).said
 
   module _ (calls : Calls) (invite : AnInvite) (life : DialogReference) where
     chosen : (b : Bool) (response : Message) → Comes response → (rseq : ℕ)
         → cond b (provisional_number (status_of response.start) response) None ≡ Some rseq
-        → (call_id : List ℕ) (id : Id) → ResponseTells (Said rseq) call_id id response
-    chosen true response comes rseq is call_id id = said_so response comes rseq is call_id id
-    chosen false response comes rseq is call_id id = absurd cc
+        → (call_id : List ℕ) (id : Id) → StartedSo call_id id response
+        → ResponseTells (Said rseq) call_id id response
+    chosen true response comes rseq is call_id id started =
+        said_so response comes rseq is call_id id started
+    chosen false response comes rseq is call_id id started = absurd cc
 
     by_client : (o : Option Client) (id : Id) (response : Message) → Comes response → (rseq : ℕ)
         → option_and_then (number_for invite life id response) o ≡ Some rseq
-        → (call_id : List ℕ) → ResponseTells (Said rseq) call_id id response
-    by_client None id response comes rseq is call_id = absurd cc
-    by_client (Some client) id response comes rseq is call_id =
+        → (call_id : List ℕ) → StartedSo call_id id response
+        → ResponseTells (Said rseq) call_id id response
+    by_client None id response comes rseq is call_id started = absurd cc
+    by_client (Some client) id response comes rseq is call_id started =
         chosen (is_for invite life id client client.kind response) response comes rseq is call_id
-        id
+        id started
 
     kind_number : (k : UpKind) (id : Id) (held : Held) → KindCame Comes k → (rseq : ℕ)
-        → number_up invite life id k held ≡ Some rseq
-        → (call_id : List ℕ) → KindTells (Said rseq) call_id id k
-    kind_number (kind.Request request reply_to) id held came rseq is call_id = tt
-    kind_number (kind.Ack ack) id held came rseq is call_id = tt
-    kind_number (kind.Response response) id held came rseq is call_id =
-        by_client (client_at id held.clients) id response came rseq is call_id
-    kind_number kind.Timeout id held came rseq is call_id = tt
-    kind_number kind.Failed id held came rseq is call_id = tt
+        → number_up invite life id k held ≡ Some rseq → (call_id : List ℕ)
+        → KindStarted (configs turn.side) (rounds_of turn.side (before ++ turn ∷ [])) id call_id k
+        → KindTells (Said rseq) call_id id k
+    kind_number (kind.Request request reply_to) id held came rseq is call_id started = tt
+    kind_number (kind.Ack ack) id held came rseq is call_id started = tt
+    kind_number (kind.Response response) id held came rseq is call_id started =
+        by_client (client_at id held.clients) id response came rseq is call_id started
+    kind_number kind.Timeout id held came rseq is call_id started = tt
+    kind_number kind.Failed id held came rseq is call_id started = tt
+
+    abbrev ComesUp : AnUp → Type 0
+    ComesUp up = UpComes configs fair before turn carried keep up
 
     input_number : (input : Option CallItem) (held : Held)
-        → IfSome input (λ i. ItemCame (UpCame Comes) i.1) → (rseq : ℕ)
+        → IfSome input (λ i. ItemCame ComesUp i.1) → (rseq : ℕ)
         → number_in invite life input held ≡ Some rseq
         → InputFits (Said rseq) input
     input_number None held came rseq is = tt
     input_number (Some (event, Up up)) held came rseq is =
-        kind_number up.kind up.id held came rseq is up.call_id
+        kind_number up.kind up.id held came.0 rseq is up.call_id came.1
     input_number (Some (event, User command)) held came rseq is = tt
 
     -- ---- those that the user is told of
 
     abbrev Tell : List (ℕ × CallOut) → Type 0
     Tell told = AllByRecursion
-        (λ (one : ℕ × CallOut). IsSaidReliably configs before turn.side one.0 one.1) told
+        (λ (one : ℕ × CallOut). IsSaidReliably configs before turn one.0 one.1) told
 
     abbrev Fit : ℕ → List CallOut → Type 0
     Fit rseq outs = AllByRecursion (OutFits (Said rseq)) outs
@@ -220,14 +243,14 @@ module _ (configs : Side → Config) (fair : IsFair configs) (before : List Turn
     in_life_number false o rseq is = absurd cc
 
     told_said : (call : Option Call) (inputs : List (Timed CallItem))
-        → AllByRecursion (TimedCame (UpCame Comes)) inputs
+        → AllByRecursion (TimedCame ComesUp) inputs
         → Tell (told_from calls invite life call inputs)
     told_said call [] came = tt
     told_said call (timed ∷ inputs) came =
         let after = done calls invite life call timed in
         let number = number_in_life calls invite life call timed in
         let alive = lives (side_held after.0).dialogs life in
-        both (λ (one : ℕ × CallOut). IsSaidReliably configs before turn.side one.0 one.1)
+        both (λ (one : ℕ × CallOut). IsSaidReliably configs before turn one.0 one.1)
         (told_with number after.1) (told_from calls invite life after.0 inputs)
         (told_so number after.1
         (λ rseq is. step_fits (Said rseq) calls call timed.input timed.moment
@@ -246,16 +269,16 @@ provisionals_said configs fair in_lives turns carried keep before after turn sam
     let calls = calls_of (configs turn.side) in
     let inputs = call_inputs_of (configs turn.side) rounds call_id in
     let order = in_lives turn.side rounds call_id invite life in
+    let early = carried_before configs turns before after turn same carried in
+    let rules = keeps_before configs turns before after turn same keep in
     let rseqs : reported calls invite life inputs
     ≡ rseqs_told configs before turn call_id invite life =
     sym (rseqs_shown calls invite life None inputs) in
     record {
       consecutive = subst IsConsecutive rseqs order.consecutive;
       once = subst (AllPairs (λ x y. x ≢ y)) rseqs order.once;
-      said = told_said configs fair before turn
-          (carried_before configs turns before after turn same carried)
-          (keeps_before configs turns before after turn same keep) calls invite life None inputs
-          (inputs_unchanged fair.transactions configs fair.addresses front
+      said = told_said configs fair before turn early rules calls invite life None inputs
+          (inputs_come configs fair before turn early rules
           (carried_to configs turns before after turn same carried)
-          (keeps_to configs turns before after turn same keep) turn.side call_id);
+          (keeps_to configs turns before after turn same keep) call_id);
     }

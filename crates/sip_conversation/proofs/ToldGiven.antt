@@ -205,23 +205,27 @@ module _ (configs : Side → Config) (fair : IsFair configs) (before : List Turn
       -- what the other side said
       abbrev SaidSo : Type 0
       SaidSo =
-          IsReliablySo configs fair before turn carried keep reply.response rseq answer_status.0
+          IsReliablySo configs fair before turn carried keep call_id reply.response rseq
+          answer_status.0
+
+      begun_so : IsStartedFor here rounds_here call_id reply.up.id reply.response
+      begun_so =
+          subst (λ c. IsStartedFor here rounds_here c reply.up.id reply.response) of_call
+          (subst (KindStarted here rounds_here reply.up.id reply.up.call_id) reply.kind_is comes.1
+          answer_status.0 answer_status.1)
 
       so : SaidSo
       so =
           said_reliably configs fair before turn carried keep reply.response
           (subst (KindCame (Came configs fair before turn carried keep)) reply.kind_is comes.0) rseq
-          reply.rseq_is answer_status.0 answer_status.1
+          reply.rseq_is answer_status.0 answer_status.1 call_id reply.up.id begun_so
 
       abbrev original : Message
       original = ((so.said).response).original
 
       begun : IsStartedFor here rounds_here call_id reply.up.id original
       begun =
-          subst (IsStartedFor here rounds_here call_id reply.up.id) (sym so.whole)
-          (subst (λ c. IsStartedFor here rounds_here c reply.up.id reply.response) of_call
-          (subst (KindStarted here rounds_here reply.up.id reply.up.call_id) reply.kind_is comes.1
-          answer_status.0 answer_status.1))
+          subst (IsStartedFor here rounds_here call_id reply.up.id) (sym so.whole) begun_so
 
       -- the INVITE went out under its id
       went : WentOut (outputs_from (call_machine (calls_of here)) call_id None inputs) reply.up.id

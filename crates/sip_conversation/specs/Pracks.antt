@@ -28,8 +28,8 @@ use Rattle.sip_conversation.specs.Replies.{AreCounted}
 -- Up to a turn's end the user of its side was told of a response of this call. It is among the
 -- reliable provisional ones to an INVITE in a life of this dialog that he was told of, with the
 -- RSeq of this RAck. The other side said it in the turns before, as such a response with that RSeq.
--- If the rounds of the turn's side are counted, its CSeq has the number of the RAck. The RAck's
--- method is INVITE.
+-- If the rounds of the turn's side are counted, it has the Call-ID of this call, and its CSeq the
+-- number of the RAck. The RAck's method is INVITE.
 pub record FollowsResponse (configs : Side → Config) (before : List Turn) (turn : Turn)
     (call_id : List ℕ) (dialog : DialogId) (rack : RAck) : Type 0 where
   pub invite : AnInvite
@@ -44,7 +44,7 @@ pub record FollowsResponse (configs : Side → Config) (before : List Turn) (tur
       (Notice (Response call_id id status local_tag remote_tag body))
   pub in_life : Contains (told_reliably configs before turn call_id invite life)
       (rack.rseq, call_out.Notice (Response call_id id status local_tag remote_tag body))
-  pub said : SaidReliably configs before turn.side rack.rseq status local_tag remote_tag body
+  pub said : SaidReliably configs before turn call_id rack.rseq status local_tag remote_tag body
   pub cseq : AreCounted (configs turn.side) (rounds_of turn.side (before ++ turn ∷ []))
       → said.response.original.cseq.number ≡ rack.cseq
   pub method : rack.method ≡ codes "INVITE"
@@ -97,19 +97,19 @@ pub record WasToldFirst (configs : Side → Config) (turns : List Turn) (side : 
       (dialog_id_of_tags (tag_of response.from) (tag_of response.to))
       record { rseq = 1; cseq = response.cseq.number; method = codes "INVITE" }
 
--- The other side said such a response. If its RSeq is above 1, the user was told of the first
--- before.
-pub record FollowsTheFirst (configs : Side → Config) (turns : List Turn) (side : Side)
-    (rseq status : ℕ) (local_tag remote_tag body : List ℕ) : Type 0 where
-  pub said : SaidReliably configs turns side rseq status local_tag remote_tag body
-  pub first : 1 < rseq → WasToldFirst configs turns side said.response.original
+-- The other side said such a response, with this Call-ID if the rounds are counted. If its RSeq is
+-- above 1, the user was told of the first before.
+pub record FollowsTheFirst (configs : Side → Config) (before : List Turn) (turn : Turn)
+    (call_id : List ℕ) (rseq status : ℕ) (local_tag remote_tag body : List ℕ) : Type 0 where
+  pub said : SaidReliably configs before turn call_id rseq status local_tag remote_tag body
+  pub first : 1 < rseq → WasToldFirst configs before turn.side said.response.original
 
 -- it is the notice of such a response
-abbrev pub IsAfterTheFirst : (Side → Config) → List Turn → Side → ℕ → CallOut → Type 0
-IsAfterTheFirst configs turns side rseq
+abbrev pub IsAfterTheFirst : (Side → Config) → List Turn → Turn → ℕ → CallOut → Type 0
+IsAfterTheFirst configs before turn rseq
     (call_out.Notice (Response call_id id status local_tag remote_tag body)) =
-    FollowsTheFirst configs turns side rseq status local_tag remote_tag body
-IsAfterTheFirst configs turns side rseq _ = ⊥
+    FollowsTheFirst configs before turn call_id rseq status local_tag remote_tag body
+IsAfterTheFirst configs before turn rseq _ = ⊥
 
 -- For every turn, call, INVITE and life of a dialog: so is each reliable provisional response that
 -- the user is told of, up to the turn's end.
@@ -117,5 +117,5 @@ abbrev pub TheFirstIsToldFirst : (Side → Config) → List Turn → Type 0
 TheFirstIsToldFirst configs turns =
     (before after : List Turn) (turn : Turn) → turns ≡ before ++ turn ∷ after
     → (call_id : List ℕ) (invite : AnInvite) (life : DialogReference)
-    → AllByRecursion (λ told. IsAfterTheFirst configs before turn.side told.0 told.1)
+    → AllByRecursion (λ told. IsAfterTheFirst configs before turn told.0 told.1)
     (told_reliably configs before turn call_id invite life)

@@ -24,7 +24,7 @@ use Rattle.sip_round.specs.Laws.{call_inputs_of}
 use Rattle.sip_conversation.specs.Answers.{RespondsTo}
 use Rattle.sip_conversation.specs.Conversation.{AgentSends, Side, Turn, peer, rounds_of}
 use Rattle.sip_conversation.specs.Messages.{IsSaid}
-use Rattle.sip_conversation.specs.Replies.{SaidResponse}
+use Rattle.sip_conversation.specs.Replies.{AreCounted, SaidResponse}
 
 -- ---- what a user is told of them
 
@@ -57,23 +57,27 @@ pub record SaidPrack (config : Config) (rounds : List Round) (response : Message
   pub dialog : dialog_id_of_tags (tag_of prack.from) (tag_of prack.to)
       ≡ dialog_id_of_tags (tag_of response.from) (tag_of response.to)
 
--- In these turns the other side said and sent such a response as a reliable provisional one, with
--- this RSeq and a tag in To, because its user answered the request that way. If the RSeq is above
--- 1, this side said and sent the PRACK of the first in these turns.
-pub record SaidReliably (configs : Side → Config) (turns : List Turn) (side : Side)
-    (rseq status : ℕ) (local_tag remote_tag body : List ℕ) : Type 0 where
-  pub response : SaidResponse configs turns side status local_tag remote_tag body
+-- Before this turn the other side said and sent such a response as a reliable provisional one,
+-- with this RSeq and a tag in To, because its user answered the request that way. If the RSeq is
+-- above 1, this side said and sent the PRACK of the first before this turn. If the rounds of this
+-- side are counted up to the turn's end, the response has this Call-ID.
+pub record SaidReliably (configs : Side → Config) (before : List Turn) (turn : Turn)
+    (call_id : List ℕ) (rseq status : ℕ) (local_tag remote_tag body : List ℕ) : Type 0 where
+  pub response : SaidResponse configs before turn.side status local_tag remote_tag body
   pub number : provisional_number (Some status) response.original ≡ Some rseq
-  pub by_user : RespondsTo (configs (peer side)) (rounds_of (peer side) turns)
+  pub by_user : RespondsTo (configs (peer turn.side)) (rounds_of (peer turn.side) before)
       response.request.request status response.original
-  pub pracked : 1 < rseq → SaidPrack (configs side) (rounds_of side turns) response.original
+  pub pracked : 1 < rseq
+      → SaidPrack (configs turn.side) (rounds_of turn.side before) response.original
+  pub call_id_is : AreCounted (configs turn.side) (rounds_of turn.side (before ++ turn ∷ []))
+      → response.original.call_id ≡ call_id
 
 -- it is the notice of a response, and the other side said that response
-abbrev pub IsSaidReliably : (Side → Config) → List Turn → Side → ℕ → CallOut → Type 0
-IsSaidReliably configs turns side rseq
+abbrev pub IsSaidReliably : (Side → Config) → List Turn → Turn → ℕ → CallOut → Type 0
+IsSaidReliably configs before turn rseq
     (Notice (Response call_id id status local_tag remote_tag body)) =
-    SaidReliably configs turns side rseq status local_tag remote_tag body
-IsSaidReliably configs turns side rseq _ = ⊥
+    SaidReliably configs before turn call_id rseq status local_tag remote_tag body
+IsSaidReliably configs before turn rseq _ = ⊥
 
 -- ---- a turn after others
 
@@ -91,7 +95,7 @@ module _ (configs : Side → Config) (before : List Turn) (turn : Turn) where
       : Type 0 where
     pub consecutive : IsConsecutive (rseqs_told call_id invite life)
     pub once : AllPairs (λ x y. x ≢ y) (rseqs_told call_id invite life)
-    pub said : AllByRecursion (λ told. IsSaidReliably configs before turn.side told.0 told.1)
+    pub said : AllByRecursion (λ told. IsSaidReliably configs before turn told.0 told.1)
         (told_reliably call_id invite life)
 
 -- for every turn, call, INVITE and life of a dialog

@@ -64,7 +64,8 @@ pub fn calls_hear_unchanged(one: Config, other: Config)
 /// a reliable provisional response with this RSeq and with the status, the tags and the body that
 /// are told. Its user answered the request with that status and body, in the call of the request.
 /// If the RSeq is above 1, this side said and sent in those turns, in the dialog of that response,
-/// a PRACK whose RAck has RSeq 1, the response's CSeq number and INVITE (RFC 3262, section 7.2).
+/// a PRACK whose RAck has RSeq 1, the response's CSeq number and INVITE (RFC 3262, section 7.2). If
+/// the rounds of this side are counted as below, the response has the Call-ID that is told.
 /// The law doesn't say that the response was to this INVITE, or that the first of these RSeqs is 1.
 /// `provisionals_come_whole` does, of the INVITE of a call.
 pub fn provisionals_told_were_said(one: Config, other: Config)
@@ -137,9 +138,10 @@ pub fn acks_follow_responses(one: Config, other: Config)
 
 /// In such a conversation, if the user is told of a reliable provisional response with an RSeq
 /// above 1, he was told of one with RSeq 1 in the turns before, under the Call-ID and in the dialog
-/// of that response. The other side said and sent it with the number of that response's CSeq, if
-/// the rounds of the side that is told are counted as above (RFC 3262, sections 3 and 4). The law
-/// doesn't say that both were to one INVITE, or in one life of that dialog.
+/// of that response. If the rounds of the side that is told are counted as above, that is the
+/// Call-ID that is told, and the other side said and sent the first one with the number of that
+/// response's CSeq (RFC 3262, sections 3 and 4). The law doesn't say that both were to one INVITE,
+/// or in one life of that dialog.
 pub fn the_first_is_told_first(one: Config, other: Config)
     ensures { (turns : List Turn) → Carried (of_sides one other) turns
         → CommandsKeepTypes turns

@@ -1,10 +1,11 @@
--- A repeat that is due sends what was sent last.
-use Rattle.std.proofs.Common.{◌≡◌, ℕ, Bool, true, false, ◌&&◌, ◌||◌, List, [], ◌∷◌, ◌++◌, refl, sym, ◌∙◌, ap, subst, ◌⊎◌, inl, inr}
-use Rattle.std.specs.Prelude.{Option, None, Some, IsSome, not, option_map, option_to_list}
+-- A repeat that is due, and a retransmitted request that was answered, send what was sent last.
+use Rattle.std.proofs.Common.{◌≡◌, ℕ, Bool, true, false, cond, ◌&&◌, ◌||◌, List, [], ◌∷◌, ◌++◌, refl, sym, ◌∙◌, ap, subst, ◌⊎◌, inl, inr}
+use Rattle.std.specs.Prelude.{Option, None, Some, IsSome, codes, not, option_map, option_to_list}
 use Rattle.std.specs.Option.{option_map_or, option_or}
 use Rattle.std.proofs.lemmas.Bool.{false≢true}
 use Rattle.sip_message.specs.declared.addr.Addr.{Addr}
 use Rattle.sip_message.specs.declared.key.Key.{Key}
+use Rattle.sip_message.specs.declared.key.Key.TheVariants as key
 use Rattle.sip_message.specs.declared.message.Message.{Message}
 use Rattle.sip_message.specs.Written.{written}
 use Rattle.keyed_machine.specs.Machine.{Timed, outputs_from, state_from}
@@ -18,6 +19,7 @@ use Rattle.sip_transactions.specs.declared.state.Role.{Role}
 use Rattle.sip_transactions.specs.declared.state.Role.TheVariants.{InviteClient, Client, InviteServer, Server}
 use Rattle.sip_transactions.specs.Rows.{rows_of}
 use Rattle.sip_transactions.specs.declared.state.State.{State}
+use Rattle.sip_transactions.specs.declared.state.State.TheVariants.{Calling, Trying, Proceeding, Completed}
 use Rattle.sip_transactions.specs.declared.step.Sent.{Sent}
 use Rattle.sip_transactions.specs.declared.step.Sent.TheVariants as send
 use Rattle.sip_transactions.specs.declared.step.Step.{Step}
@@ -25,11 +27,15 @@ use Rattle.sip_transactions.specs.declared.step.UpAction.{UpAction}
 use Rattle.sip_transactions.specs.declared.step.UpAction.TheVariants as up
 use Rattle.sip_transactions.specs.declared.trigger.Trigger.{Trigger}
 use Rattle.sip_transactions.specs.declared.trigger.Trigger.TheVariants as on
-use Rattle.sip_transactions.specs.Steps.Input.{arrived_in, message_in, role_of, trigger_of}
+use Rattle.sip_transactions.specs.Steps.Input.{arrived_in, is_same_method, message_in, role_of, trigger_of}
 use Rattle.sip_transactions.specs.Steps.Life.{state_of, acted, acted_if, begun, step_machine, stepped}
-use Rattle.sip_transactions.specs.Steps.Output.{handed_out, made_bytes, made_of, outputs_of, send_out, sent_bytes}
+use Rattle.sip_transactions.specs.Laws.{IsServer}
+use Rattle.sip_transactions.specs.ServerLaws.{is_answering}
+use Rattle.sip_transactions.specs.Steps.Output.{handed_out, made_bytes, made_of, outputs_of, send_out, sent_bytes, trying_of}
+use Rattle.sip_transactions.proofs.AtServers.{answered_again}
 use Rattle.sip_transactions.proofs.LawSteps.{RowFor, by_step}
-use Rattle.sip_transactions.proofs.RowFacts.{row_passes, table_passes, and-left, and-right, not_both, or_cases}
+use Rattle.sip_transactions.proofs.RowFacts.{by_test, row_passes, table_passes, and-left, and-right, not_both, or_cases}
+use Rattle.sip_transaction_progress.specs.Answered.{AnsweredAsBefore}
 use Rattle.sip_transaction_progress.specs.Timers.{RepeatedInTime, last_send}
 use Rattle.sip_transaction_progress.proofs.Inputs.{tick_trigger, HeldIn, after_row, passes, rule}
 use Rattle.sip_transaction_progress.proofs.Timed.{enters, entered_passes, implied, is_timed, reached, repeats}
@@ -88,9 +94,11 @@ record Keeps (key : Key) (to : Addr) (latest : Option Out) (last : Option (List 
   kept : last ≡ Some bytes
   sent : latest ≡ Some (Send key to bytes)
 
-abbrev is_given : Sent → Bool
-is_given send.Given = true
-is_given sent = false
+-- a message is made from that of the input
+abbrev is_made : Sent → Bool
+is_made send.Given = true
+is_made send.Trying = true
+is_made sent = false
 
 -- nothing new is sent
 abbrev is_old : Sent → Bool
@@ -101,7 +109,7 @@ is_old sent = false
 still_kept : (key : Key) (to : Addr) (latest : Option Out) (last : Option (List ℕ))
     (request message : Option Message) (sent : Sent)
     → ((is_old sent ≡ true) × Keeps key to latest last)
-    ⊎ ((is_given sent ≡ true) × IsSome message)
+    ⊎ ((is_made sent ≡ true) × IsSome message)
     → let made = made_bytes request sent message in
     Keeps key to (option_or (option_map (send_out key to) (sent_bytes last sent made)) latest)
     (option_or made last)
@@ -120,19 +128,36 @@ still_kept key to latest last request (Some m) send.Latest (inl had) = record {
 }
 still_kept key to latest last request (Some m) send.Given (inr given) =
     record { bytes = written m; kept = refl; sent = refl }
+still_kept key to latest last request (Some m) send.Trying (inr given) =
+    record { bytes = written (trying_of m); kept = refl; sent = refl }
 still_kept key to latest last request None send.Given (inr given) =
+    absurd (false≢true given.1)
+still_kept key to latest last request None send.Trying (inr given) =
     absurd (false≢true given.1)
 still_kept key to latest last request message sent (inl had) = absurd (false≢true had.0)
 still_kept key to latest last request message sent (inr given) = absurd (false≢true given.0)
 
--- ---- what repeats has sent something
+-- ---- what may go out again was sent
 
-abbrev Repeats : Key → Option Out → State → Context → Type 0
-Repeats key latest state context =
-    repeats (role_of key) state ≡ true → Keeps key context.to latest context.last
+-- what was sent last may go out again: a timer repeats it, or a server answers with it
+abbrev resends : Role → State → Bool
+resends InviteClient Calling = true
+resends Client Trying = true
+resends Client Proceeding = true
+resends InviteServer Proceeding = true
+resends InviteServer Completed = true
+resends Server Proceeding = true
+resends Server Completed = true
+resends role state = false
 
+abbrev Resends : Key → Option Out → State → Context → Type 0
+Resends key latest state context =
+    resends (role_of key) state ≡ true → Keeps key context.to latest context.last
+
+-- the input has a message
 abbrev is_asked : Trigger → Bool
 is_asked on.Start = true
+is_asked on.Request = true
 is_asked (on.Answer class) = true
 is_asked trigger = false
 
@@ -149,11 +174,11 @@ asked_by held now (Some (Failed id)) trigger is asked =
     let same : on.Failed ≡ trigger = cc in absurd (false≢true (ap is_asked same ∙ asked))
 asked_by held now (Some Abandon) trigger is asked = cc
 
--- a row enters a state that repeats only from such a state, or by what the user gave
+-- a row enters such a state only from such a state, or by what it sends
 abbrev sends_first : Role → Option State → Trigger → Sent → State → Bool
-sends_first role state trigger sent next = not (repeats role next)
-    || ((option_map_or (repeats role) state false && is_old sent)
-    || (is_asked trigger && is_given sent))
+sends_first role state trigger sent next = not (resends role next)
+    || ((option_map_or (resends role) state false && is_old sent)
+    || (is_asked trigger && is_made sent))
 
 abbrev sends_well : Role → Option State → Trigger → Step → Bool
 sends_well role state trigger step =
@@ -165,33 +190,33 @@ tables_send Client = refl
 tables_send InviteServer = refl
 tables_send Server = refl
 
-abbrev RepeatsAfter : Key → Option Out → Option Life × List Out → Type 0
-RepeatsAfter key latest after =
-    HeldIn (Repeats key (option_or (last_send after.1) latest)) after.0
+abbrev ResendsAfter : Key → Option Out → Option Life × List Out → Type 0
+ResendsAfter key latest after =
+    HeldIn (Resends key (option_or (last_send after.1) latest)) after.0
 
-row_repeats : (key : Key) (latest : Option Out) (held : Option Life) (timed : Timed Input)
+row_resends : (key : Key) (latest : Option Out) (held : Option Life) (timed : Timed Input)
     (step : Step) → RowFor key held timed step → (context : Context)
-    → (option_map_or (repeats (role_of key)) (state_of held) false ≡ true
+    → (option_map_or (resends (role_of key)) (state_of held) false ≡ true
     → Keeps key context.to latest context.last)
-    → RepeatsAfter key latest (acted key timed.moment timed.input (state_of held) context step)
-row_repeats key latest held timed step row context had =
+    → ResendsAfter key latest (acted key timed.moment timed.input (state_of held) context step)
+row_resends key latest held timed step row context had =
     let role = role_of key in
     let message = message_in timed.input in
     let made = made_bytes context.request step.sent message in
     let out = outputs_of key context step made (arrived_in timed.input) in
-    after_row (Repeats key (option_or (last_send out) latest)) (state_of held) context step
-    timed.moment made (λ next into repeating.
+    after_row (Resends key (option_or (last_send out) latest)) (state_of held) context step
+    timed.moment made (λ next into resending.
     subst (λ l. Keeps key context.to l (option_or made context.last))
     (sym (ap (λ o. option_or o latest)
     (last_send-row key context step made (arrived_in timed.input))))
     (still_kept key context.to latest context.last context.request message step.sent
-    (elim (or_cases (option_map_or (repeats role) (state_of held) false && is_old step.sent)
-    (is_asked row.trigger && is_given step.sent) (implied (repeats role next) _ repeating
+    (elim (or_cases (option_map_or (resends role) (state_of held) false && is_old step.sent)
+    (is_asked row.trigger && is_made step.sent) (implied (resends role next) _ resending
     (entered_passes (sends_first role (state_of held) row.trigger step.sent) (state_of held) next
     step (row_passes (sends_well role) (rows_of role) (tables_send role) (state_of held)
     row.trigger step row.row) into))) [
       | inl old ↦ inl (
-        and-right (option_map_or (repeats role) (state_of held) false) _ old,
+        and-right (option_map_or (resends role) (state_of held) false) _ old,
         had (and-left _ (is_old step.sent) old),
       )
       | inr given ↦ inr (
@@ -201,37 +226,56 @@ row_repeats key latest held timed step row context had =
       )
     ])))
 
-begun_repeats : (key : Key) (latest : Option Out) (timed : Timed Input) (step : Step)
+begun_resends : (key : Key) (latest : Option Out) (timed : Timed Input) (step : Step)
     → RowFor key None timed step → (context : Option Context)
-    → RepeatsAfter key latest (acted_if key timed.moment timed.input None context step)
-begun_repeats key latest timed step row None = tt
-begun_repeats key latest timed step row (Some context) =
-    row_repeats key latest None timed step row context (λ never. absurd (false≢true never))
+    → ResendsAfter key latest (acted_if key timed.moment timed.input None context step)
+begun_resends key latest timed step row None = tt
+begun_resends key latest timed step row (Some context) =
+    row_resends key latest None timed step row context (λ never. absurd (false≢true never))
 
-input_repeats : (key : Key) (latest : Option Out) (held : Option Life) (timed : Timed Input)
-    → HeldIn (Repeats key latest) held → RepeatsAfter key latest (stepped key held timed)
-input_repeats key latest None timed had =
-    by_step (RepeatsAfter key latest) key None timed tt tt (λ step row.
-    begun_repeats key latest timed step row (begun (role_of key) timed.input))
-input_repeats key latest (Some life) timed had =
-    by_step (RepeatsAfter key latest) key (Some life) timed tt had
-    (λ step row. row_repeats key latest (Some life) timed step row life.context had)
+input_resends : (key : Key) (latest : Option Out) (held : Option Life) (timed : Timed Input)
+    → HeldIn (Resends key latest) held → ResendsAfter key latest (stepped key held timed)
+input_resends key latest None timed had =
+    by_step (ResendsAfter key latest) key None timed tt tt (λ step row.
+    begun_resends key latest timed step row (begun (role_of key) timed.input))
+input_resends key latest (Some life) timed had =
+    by_step (ResendsAfter key latest) key (Some life) timed tt had
+    (λ step row. row_resends key latest (Some life) timed step row life.context had)
 
-all_repeat : (key : Key) (latest : Option Out) (held : Option Life) (inputs : List (Timed Input))
-    → HeldIn (Repeats key latest) held
-    → HeldIn (Repeats key (option_or (last_send (outputs_from step_machine key held inputs)) latest))
+all_resend : (key : Key) (latest : Option Out) (held : Option Life) (inputs : List (Timed Input))
+    → HeldIn (Resends key latest) held
+    → HeldIn (Resends key
+    (option_or (last_send (outputs_from step_machine key held inputs)) latest))
     (state_from step_machine key held inputs)
-all_repeat key latest held [] had = had
-all_repeat key latest held (timed ∷ inputs) had =
+all_resend key latest held [] had = had
+all_resend key latest held (timed ∷ inputs) had =
     let after = stepped key held timed in
     let rest = outputs_from step_machine key after.0 inputs in
-    subst (λ l. HeldIn (Repeats key l) (state_from step_machine key after.0 inputs))
+    subst (λ l. HeldIn (Resends key l) (state_from step_machine key after.0 inputs))
     (sym (ap (λ o. option_or o latest) (last_send-append after.1 rest)
     ∙ or_or (last_send rest) (last_send after.1) latest))
-    (all_repeat key (option_or (last_send after.1) latest) after.0 inputs
-    (input_repeats key latest held timed had))
+    (all_resend key (option_or (last_send after.1) latest) after.0 inputs
+    (input_resends key latest held timed had))
+
+-- after any inputs
+kept_last : (key : Key) (inputs : List (Timed Input)) (life : Life)
+    → state_from step_machine key None inputs ≡ Some life
+    → Resends key (last_send (outputs_from step_machine key None inputs)) life.state life.context
+kept_last key inputs life is =
+    let latest = last_send (outputs_from step_machine key None inputs) in
+    subst (HeldIn (Resends key latest)) is (subst (λ l. HeldIn (Resends key l)
+    (state_from step_machine key None inputs)) (or_none latest)
+    (all_resend key None None inputs tt))
 
 -- ---- the repeat
+
+repeats_resend : (role : Role) (state : State) → repeats role state ≡ true
+    → resends role state ≡ true
+repeats_resend InviteClient Calling is = refl
+repeats_resend Client Trying is = refl
+repeats_resend Client Proceeding is = refl
+repeats_resend InviteServer Completed is = refl
+repeats_resend role state is = absurd (false≢true is)
 
 abbrev is_silent : UpAction → Bool
 is_silent up.Nothing = true
@@ -273,13 +317,46 @@ repeated_in_time key inputs life now is due early =
     sym (is_timed role _ life (reached key inputs) is).repeat
     ∙ runs now life.context.timers.repeat due in
     let latest = last_send (outputs_from step_machine key None inputs) in
-    let keeps : Repeats key latest life.state life.context =
-    subst (HeldIn (Repeats key latest)) is (subst (λ l. HeldIn (Repeats key l)
-    (state_from step_machine key None inputs)) (or_none latest)
-    (all_repeat key None None inputs tt)) in
     by_tick (λ after. Some after.1 ≡ option_map (λ out. out ∷ []) latest) key life now
     (λ ends. absurd (not_both _ ends early))
     (λ on_time repeats_now. again_outputs key life.context (rule role life.state on.RetransmitDue) _
     latest (implied (repeats role life.state) _ repeating
-    (passes sends_again refl role life.state on.RetransmitDue)) (keeps repeating))
+    (passes sends_again refl role life.state on.RetransmitDue)) (kept_last key inputs life is
+    (repeats_resend role life.state repeating)))
     (λ on_time none. absurd (not_both _ due none))
+
+-- ---- a retransmitted request
+
+abbrev is_server : Role → Bool
+is_server InviteServer = true
+is_server Server = true
+is_server role = false
+
+server_role : (k : Key) → IsServer k → is_server (role_of k) ≡ true
+server_role (key.Client branch method) none = absurd none
+server_role (key.Server branch sent_by method) server =
+    by_test (is_same_method method (codes "INVITE"))
+    (λ hit. ap (λ b. is_server (cond b InviteServer Server)) hit)
+    (λ miss. ap (λ b. is_server (cond b InviteServer Server)) miss)
+
+answering_resends : (role : Role) (state : State) → is_server role ≡ true
+    → is_answering state ≡ true → resends role state ≡ true
+answering_resends InviteServer Proceeding server answering = refl
+answering_resends InviteServer Completed server answering = refl
+answering_resends Server Proceeding server answering = refl
+answering_resends Server Completed server answering = refl
+answering_resends InviteClient state server answering = absurd (false≢true server)
+answering_resends Client state server answering = absurd (false≢true server)
+answering_resends role state server answering = absurd (false≢true answering)
+
+pub answered_as_before : AnsweredAsBefore step_machine
+answered_as_before key server inputs life is answering id message reply_to now request =
+    let latest = last_send (outputs_from step_machine key None inputs) in
+    let keeps = kept_last key inputs life is
+    (answering_resends (role_of key) life.state (server_role key server) answering) in
+    let again = answered_again key server life keeps.bytes answering keeps.kept id message reply_to
+    now request in (
+      ap (λ after. after.0) again,
+      ap (λ (after : Option Life × List Out). Some after.1) again
+          ∙ sym (ap (option_map (λ sent. sent ∷ [])) keeps.sent),
+    )

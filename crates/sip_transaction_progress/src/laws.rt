@@ -1,6 +1,7 @@
 //! Laws of progress of one transaction.
 
 ghost use Rattle.sip_transactions.specs.Machine.{transaction_machine};
+ghost use Rattle.sip_transaction_progress.specs.Answered.{AnsweredAsBefore};
 ghost use Rattle.sip_transaction_progress.specs.Closing.{ClosedInTime, RejectedInTime};
 ghost use Rattle.sip_transaction_progress.specs.Outcomes.{AtMostOneOutcome, EachInviteEnds, EachRequestEnds, NoEarlyTimeout};
 ghost use Rattle.sip_transaction_progress.specs.Timers.{GoneUnlessWaiting, NothingLeftDue, RepeatedInTime, TicksAreQuiet, WaitsWithoutTimers};
@@ -32,6 +33,13 @@ pub fn ticks_are_quiet()
 /// again, once (RFC 3261, sections 17.1.1.2, 17.1.2.2 and 17.2.1).
 pub fn repeated_in_time()
     ensures { RepeatedInTime transaction_machine }
+{}
+
+/// If its request comes again, a server that answered it sends again what it sent last, once, and
+/// nothing else happens. Of a 2xx to an INVITE this isn't said, nor after the ACK (RFC 3261,
+/// sections 17.2.1 and 17.2.2).
+pub fn answered_again_as_before()
+    ensures { AnsweredAsBefore transaction_machine }
 {}
 
 /// A client of a request other than INVITE tells of at most one outcome: a final response, a
