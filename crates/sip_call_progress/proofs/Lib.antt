@@ -14,6 +14,6 @@ pub mod Outcomes
 pub mod Rejected
 pub mod ServedBounds
 pub mod ServedSteps
+pub mod ServerOuts
 pub mod Told
-pub mod ToldOnce
 pub mod Waits
