@@ -1,4 +1,5 @@
-//! A writer with a thread of its own, so that an output that nobody reads holds no turn up.
+//! A writer with a thread of its own, so that an output that nobody reads holds no turn up. Several
+//! threads may write to it, each to an end of its own.
 
 ghost use Rattle.std.specs.Prelude.{OnOk};
 ghost use Rattle.std.specs.Io.KnownBytes.{Appends};
@@ -8,12 +9,12 @@ use crate::bell::Bell;
 use crate::fault::UaFault;
 use crate::notices::put;
 use sip_desk::{Desk, Poster, open};
-use std::alloc::Global;
+use std::alloc::{AllocError, Global};
 use std::io::{self, ErrorKind, Write};
 use std::mem;
 use std::net::Net;
 use std::sync::Arc;
-use std::sync::atomic::{AtomicBool, Ordering};
+use std::sync::atomic::{AtomicBool, AtomicU64, Ordering};
 use std::thread::{self, JoinHandle, Threads};
 use std::time::Duration;
 
@@ -26,15 +27,21 @@ const TOGETHER: usize = 64;
 /// How long the thread waits at its bell at most, in ms.
 const PAUSE: u64 = 1_000;
 
-/// A writer that never waits for its stream. What was written between two flushes is a piece. A
-/// thread writes the pieces to the stream, in order. A piece for which there is no room is lost.
+/// An end of a writer that never waits for its stream. What was written between two flushes is a
+/// piece. A thread writes the pieces to the stream, those of an end in order. A piece for which
+/// there is no room is lost.
 #[derive(Drop)]
-pub struct QueuedWriter {
+pub struct QueuedEnd {
     alloc: Global,
     piece: Vec<u8>,
     line: Poster<Vec<u8>>,
-    lost: u64,
     signals: Arc<Signals>,
+}
+
+/// The first end of a writer, and the thread that writes to its stream.
+#[derive(Drop)]
+pub struct QueuedWriter {
+    end: QueuedEnd,
     thread: JoinHandle<Option<io::Error>>,
 }
 
@@ -47,7 +54,7 @@ pub struct Written {
     pub error: Option<io::Error>,
 }
 
-// What the writer and its thread tell each other.
+// What the ends of a writer and its thread tell each other.
 #[derive(Drop)]
 struct Signals {
     // It is rung where a piece was posted, and at the end.
@@ -55,10 +62,12 @@ struct Signals {
     // Nothing more is posted.
     is_over: AtomicBool,
     has_failed: AtomicBool,
+    // How many pieces were lost.
+    lost: AtomicU64,
 }
 
 impl QueuedWriter {
-    /// Starts the thread that writes to this stream.
+    /// Starts the thread that writes to this stream. The writer has one end.
     ///
     /// # Errors
     ///
@@ -68,38 +77,56 @@ impl QueuedWriter {
         alloc: Global,
         stream: W,
     ) -> Result<QueuedWriter, UaFault> {
-        let (desk, mut posters) = open(alloc, 1, ROOM)?;
-        let Some(line) = posters.pop() else {
-            return Err(UaFault::NoMemory);
-        };
-        let signals = new_signals(rt, alloc)?;
-        let theirs = signals.clone()?;
-        let Ok(thread) = thread::spawn(rt, move || write_all(alloc, desk, stream, &theirs)) else {
-            return Err(UaFault::Socket);
-        };
-        Ok(QueuedWriter {
-            alloc,
-            piece: Vec::new(alloc),
-            line,
-            lost: 0,
-            signals,
-            thread,
-        })
+        let (writer, _) = QueuedWriter::start_with(rt, alloc, stream, 0)?;
+        Ok(writer)
     }
 
-    /// Waits until the thread has written what was posted.
+    /// The same, with so many other ends.
+    ///
+    /// # Errors
+    ///
+    /// The same.
+    pub fn start_with<R: Threads + Net, W: Write + Send + Drop + 'static>(
+        rt: &R,
+        alloc: Global,
+        stream: W,
+        others: usize,
+    ) -> Result<(QueuedWriter, Vec<QueuedEnd>), UaFault> {
+        let (desk, lines) = open(alloc, others.saturating_add(1), ROOM)?;
+        let signals = new_signals(rt, alloc)?;
+        let mut ends = ends_at(alloc, lines, &signals)?;
+        let Some(end) = ends.pop() else {
+            return Err(UaFault::NoMemory);
+        };
+        let Ok(thread) = thread::spawn(rt, move || write_all(alloc, desk, stream, &signals)) else {
+            return Err(UaFault::Socket);
+        };
+        Ok((QueuedWriter { end, thread }, ends))
+    }
+
+    /// Waits until the thread has written what was posted. Let the other ends go before.
     pub fn finish<R: Threads>(self, rt: &R) -> Written {
-        self.signals.is_over.store(true, Ordering::SeqCst);
-        self.signals.bell.ring();
-        let error = self.thread.join(rt);
-        Written {
-            lost: self.lost,
-            error,
-        }
+        let QueuedWriter { end, thread } = self;
+        let signals = &end.signals;
+        signals.is_over.store(true, Ordering::SeqCst);
+        signals.bell.ring();
+        let error = thread.join(rt);
+        let lost = signals.lost.load(Ordering::SeqCst);
+        Written { lost, error }
     }
 }
 
 impl Write for QueuedWriter {
+    fn write(&mut self, bytes: &[u8]) -> io::Result<usize> {
+        self.end.write(bytes)
+    }
+
+    fn flush(&mut self) -> io::Result<()> {
+        self.end.flush()
+    }
+}
+
+impl Write for QueuedEnd {
     fn write(&mut self, bytes: &[u8]) -> io::Result<usize> {
         if self.signals.has_failed.load(Ordering::SeqCst) {
             return Err(io::Error::from(ErrorKind::BrokenPipe));
@@ -112,10 +139,30 @@ impl Write for QueuedWriter {
         let piece = mem::replace(&mut self.piece, Vec::new(self.alloc));
         match self.line.post(piece) {
             Ok(()) => self.signals.bell.ring(),
-            Err(_) => self.lost = self.lost.saturating_add(1),
+            Err(_) => {
+                self.signals.lost.fetch_add(1, Ordering::SeqCst);
+            }
         }
         Ok(())
     }
+}
+
+// An end at each of these lines.
+fn ends_at(
+    alloc: Global,
+    lines: Vec<Poster<Vec<u8>>>,
+    signals: &Arc<Signals>,
+) -> Result<Vec<QueuedEnd>, AllocError> {
+    let mut ends = Vec::with_capacity(alloc, lines.len())?;
+    for line in lines {
+        ends.push(QueuedEnd {
+            alloc,
+            piece: Vec::new(alloc),
+            line,
+            signals: signals.clone()?,
+        })?;
+    }
+    Ok(ends)
 }
 
 fn new_signals<R: Net>(rt: &R, alloc: Global) -> Result<Arc<Signals>, UaFault> {
@@ -126,6 +173,7 @@ fn new_signals<R: Net>(rt: &R, alloc: Global) -> Result<Arc<Signals>, UaFault> {
         bell,
         is_over: AtomicBool::new(false),
         has_failed: AtomicBool::new(false),
+        lost: AtomicU64::new(0),
     };
     match Arc::new(alloc, signals) {
         Ok(signals) => Ok(signals),
