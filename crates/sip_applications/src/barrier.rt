@@ -12,6 +12,7 @@ const PAUSE: u64 = 1;
 
 /// A barrier for so many stations. Where the system has no more threads, one of them never reaches
 /// it while the others wait.
+#[derive(Drop)]
 pub(crate) struct Barrier {
     reached: AtomicUsize,
     stations: usize,

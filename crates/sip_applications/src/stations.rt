@@ -1,6 +1,6 @@
 //! The stations of all agents at a socket: the caller's own, and those of the others.
 
-ghost use Rattle.std.specs.Prelude.{◌≡◌, ◌∷◌, IfOk, IfSome, OnOk, map};
+ghost use Rattle.std.specs.Prelude.{◌≡◌, [], ◌∷◌, ◌++◌, IfOk, IfSome, OnOk, map};
 ghost use Rattle.std.specs.List.{AllZip};
 ghost use Rattle.sip_desk.specs.Lines.{IsEndOf, IsPosterOf, KeepsLines, all_posted, taken};
 ghost use Rattle.sip_applications.specs.Stations.{EndsStation, KeepsItsLine};
@@ -31,13 +31,26 @@ pub(crate) fn open_others<R: Clock, U: User, F: RecordFile, V: User, O: Write + 
         (own.now.desk ∷ map (λ other. other.station.desk) made.0.items) made.1.items) }
 {
     let mut stations = Vec::new(alloc);
-    let mut lines = Vec::from_array(alloc, [line])?;
+    let mut lines = Vec::new(alloc);
+    add(&mut lines, line)?;
     for agent in agents {
         let (station, line) = OtherStation::open(rt, alloc, agent)?;
-        stations.push(station)?;
-        lines.push(line)?;
+        add(&mut stations, station)?;
+        add(&mut lines, line)?;
     }
     Ok((stations, lines))
+}
+
+/// Adds an item at the end.
+///
+/// # Errors
+///
+/// Memory ran out. Then the item is lost.
+pub(crate) fn add<T: Drop>(items: &mut Vec<T>, item: T) -> Result<(), AllocError>
+    ensures { OnOk result (items.new.items ≡ items.old.items ++ item ∷ []) }
+{
+    items.push(item)?;
+    Ok(())
 }
 
 /// Runs all stations, each on a thread of its own; the caller's own on the calling thread.

@@ -1,6 +1,6 @@
 //! The user agents: one that listens, one that calls, and one that does what a pipe says.
 
-ghost use Rattle.std.specs.Prelude.{◌≡◌, IfSome};
+ghost use Rattle.std.specs.Prelude.{◌≡◌, ◌^◌, ◌<◌, ◌≤◌, IfSome};
 ghost use Rattle.std.specs.List.{AllZip};
 ghost use Rattle.sip_udp.specs.Hearing.{EndsLine};
 
@@ -13,7 +13,7 @@ use crate::pipe_input::{PipeLine, feed};
 use crate::piped::Piped;
 use crate::shared_plan::SharedPlan;
 use crate::station::{Station, one_line};
-use crate::stations::{conclude, open_others, run_all};
+use crate::stations::{add, conclude, open_others, run_all};
 use sip_desk::Poster;
 use sip_message::{Addr, CallId, Uri, ip_text};
 use sip_round::Event;
@@ -93,35 +93,51 @@ pub fn listen_at<
     plan: ListenPlan,
     turns: u64,
     notices: &mut W,
-    mut others: Vec<O>,
+    others: Vec<O>,
     errors: &mut E,
 ) -> Result<(), UaFault> {
     let agents = endpoint.agents().min(others.len() + 1);
     endpoint.share_limit(agents);
     let plan = SharedPlan::new(alloc, endpoint.config.local.ip, plan)?;
     let user = Answering::new(alloc, plan.clone()?);
-    let mut other_agents = Vec::new(alloc);
-    for number in 1..agents {
-        let Some(notices) = others.pop() else {
-            break;
-        };
-        other_agents.push(OtherAgent {
-            endpoint: endpoint.of_agent(number)?,
-            user: Answering::new(alloc, plan.clone()?),
-            notices,
-        })?;
-    }
+    let others = other_agents(alloc, &endpoint, &plan, agents, others)?;
     talk(
         rt,
         alloc,
         endpoint,
         user,
-        other_agents,
+        others,
         None,
         turns,
         notices,
         errors,
     )
+}
+
+// The agents from the second on, of so many. Each tells its notices to one of the writers.
+fn other_agents<F: RecordFile, O: Drop>(
+    alloc: Global,
+    endpoint: &Endpoint<F>,
+    plan: &Arc<SharedPlan>,
+    agents: usize,
+    mut writers: Vec<O>,
+) -> Result<Vec<OtherAgent<Answering, O>>, UaFault>
+    requires most { agents ≤ 16 }
+    requires room { 1 < agents → endpoint.now.config.first < 2 ^ 58 }
+{
+    let mut others = Vec::new(alloc);
+    for number in 1..agents {
+        let Some(notices) = writers.pop() else {
+            break;
+        };
+        let agent = OtherAgent {
+            endpoint: endpoint.of_agent(number)?,
+            user: Answering::new(alloc, plan.clone()?),
+            notices,
+        };
+        add(&mut others, agent)?;
+    }
+    Ok(others)
 }
 
 /// Calls a URI at an address, ends each dialog that a 2xx confirms, and takes `turns` turns of 10
