@@ -33,7 +33,7 @@ pub(crate) struct OtherStation<U, O> {
 
 impl<U: User, O: Write + Drop> OtherStation<U, O> {
     /// The station of this agent, and the poster of its line.
-    pub(crate) fn open<R: Clock>(
+    pub(crate) fn open<R: Threads + Clock + Sync>(
         rt: &R,
         alloc: Global,
         agent: OtherAgent<U, O>,
@@ -43,10 +43,11 @@ impl<U: User, O: Write + Drop> OtherStation<U, O> {
         let OtherAgent {
             endpoint,
             user,
-            notices,
+            mut notices,
         } = agent;
         let mut errors = Vec::new(alloc);
-        let (station, line, _) = Station::open(rt, alloc, endpoint, user, None, &mut errors)?;
+        let (told, wrong) = (&mut notices, &mut errors);
+        let (station, line) = Station::open(rt, alloc, endpoint, user, None, told, wrong)?;
         let other = OtherStation {
             station,
             notices,

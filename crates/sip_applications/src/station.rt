@@ -33,27 +33,31 @@ pub(crate) struct Station<U, F> {
 }
 
 impl<U: User, F: RecordFile> Station<U, F> {
-    /// A station at an endpoint before its first turn, the poster of its line, and what there is of
-    /// its journal.
-    pub(crate) fn open<R: Clock, E: Write>(
+    /// A station at an endpoint before its first turn, which goes on from the journal if there is
+    /// one, and the poster of its line.
+    pub(crate) fn open<R: Threads + Clock + Sync, W: Write, E: Write>(
         rt: &R,
         alloc: Global,
         endpoint: Endpoint<F>,
         user: U,
         bell: Option<Arc<Bell>>,
+        notices: &mut W,
         errors: &mut E,
-    ) -> Result<(Station<U, F>, Poster<Event>, Option<Past>), UaFault>
+    ) -> Result<(Station<U, F>, Poster<Event>), UaFault>
         ensures { IfOk result (λ made. IsPosterOf made.0.desk made.1) }
     {
+        let (mut turns, socket, past) = turns_at(rt, alloc, endpoint, user, bell, errors)?;
+        if let Some(past) = past {
+            turns.resume(rt, past, notices, errors)?;
+        }
         let (desk, line) = one_line(alloc, DATAGRAMS_WAITING)?;
-        let (turns, socket, past) = turns_at(rt, alloc, endpoint, user, bell, errors)?;
         let station = Station {
             turns,
             desk,
             outlet: CountedSocket { socket, failed: 0 },
             fault: None,
         };
-        Ok((station, line, past))
+        Ok((station, line))
     }
 
     /// Takes its turns as soon as all stations are there. If they end by a fault, all others are told

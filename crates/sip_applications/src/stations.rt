@@ -3,7 +3,7 @@
 ghost use Rattle.std.specs.Prelude.{◌≡◌, [], ◌∷◌, ◌++◌, IfOk, IfSome, OnOk, map};
 ghost use Rattle.std.specs.List.{AllZip};
 ghost use Rattle.sip_desk.specs.Lines.{IsEndOf, IsPosterOf, KeepsLines, all_posted, taken};
-ghost use Rattle.sip_applications.specs.Stations.{EndsStation, KeepsItsLine};
+ghost use Rattle.sip_applications.specs.Stations.{EndsStation, KeepsItsLine, desks_of};
 ghost use denote.Param.Send.{IsSend, IsSync};
 
 use crate::barrier::Barrier;
@@ -19,7 +19,13 @@ use std::time::Clock;
 
 /// Opens the stations of these agents. Gives them, and the lines of all: first `line`, the caller's
 /// own, and then those of the others, in order.
-pub(crate) fn open_others<R: Clock, U: User, F: RecordFile, V: User, O: Write + Drop>(
+pub(crate) fn open_others<
+    R: Threads + Clock + Sync,
+    U: User,
+    F: RecordFile,
+    V: User,
+    O: Write + Drop,
+>(
     rt: &R,
     alloc: Global,
     own: &Station<U, F>,
@@ -27,8 +33,8 @@ pub(crate) fn open_others<R: Clock, U: User, F: RecordFile, V: User, O: Write + 
     agents: Vec<OtherAgent<V, O>>,
 ) -> Result<(Vec<OtherStation<V, O>>, Vec<Poster<Event>>), UaFault>
     requires { IsPosterOf own.now.desk line }
-    ensures { IfOk result (λ made. AllZip IsPosterOf
-        (own.now.desk ∷ map (λ other. other.station.desk) made.0.items) made.1.items) }
+    ensures { IfOk result (λ made. AllZip IsPosterOf (desks_of own.now made.0.items)
+        made.1.items) }
 {
     let mut stations = Vec::new(alloc);
     let mut lines = Vec::new(alloc);
@@ -106,8 +112,8 @@ pub(crate) fn conclude<U: User, F: RecordFile, V: User, O: Write + Drop, E: Writ
     by_system: Option<u64>,
     errors: &mut E,
 ) -> Result<(), UaFault>
-    requires { IfSome heard.ends (λ ends. AllZip EndsStation
-        (own.desk ∷ map (λ other. other.station.desk) others.items) ends.items) }
+    requires { IfSome heard.ends (λ ends. AllZip EndsStation (desks_of own others.items)
+        ends.items) }
 {
     let Station {
         mut turns,

@@ -301,7 +301,7 @@ struct Ears {
 
 impl Ears {
     fn new(alloc: Global, socket: &UdpSocket, flags: &Arc<Flags>) -> Result<Ears, UaFault> {
-        let Ok(socket) = listening(socket) else {
+        let Ok(socket) = timed_clone(socket) else {
             return Err(UaFault::Socket);
         };
         Ok(Ears {
@@ -346,19 +346,19 @@ fn talk<
     let is_announced = endpoint.is_announced;
     let flags = flags_with(alloc, bell.clone()?)?;
     let ears = Ears::new(alloc, &endpoint.socket, &flags)?;
-    let (mut own, line, past) = Station::open(rt, alloc, endpoint, user, bell, errors)?;
-    if let Some(past) = past {
-        own.turns.resume(rt, past, notices, errors)?;
-    }
+    let (own, line) = Station::open(rt, alloc, endpoint, user, bell, notices, errors)?;
     let (others, lines) = open_others(rt, alloc, &own, line, others)?;
     let of_lines = OfLines(Snapshot::of(&lines));
-    let Ok(listener) = thread::spawn_with(rt, of_lines, move || ears.hear(alloc, lines)) else {
+    let listening = move || -> Heard
+        ensures { IfSome result.ends (λ ends. AllZip EndsLine lines.items ends.items) }
+    { ears.hear(alloc, lines) };
+    let Ok(listener) = thread::spawn_with(rt, of_lines, listening) else {
         return Err(UaFault::Socket);
     };
     if is_announced {
         let _ = writeln!(errors, "ua: ready at {local}");
     }
-    let (own, others) = run_all(rt, turns, &flags, own, others, notices, errors);
+    let (own, ran) = run_all(rt, turns, &flags, own, others, notices, errors);
     flags.stop.store(true, Ordering::SeqCst);
     let heard = listener.join(rt);
     let lost = if own.turns.is_counted() {
@@ -366,10 +366,11 @@ fn talk<
     } else {
         None
     };
-    conclude(own, others?, heard, lost, errors)
+    let others = ran?;
+    conclude(own, others, heard, lost, errors)
 }
 
-fn listening(socket: &UdpSocket) -> io::Result<UdpSocket> {
+fn timed_clone(socket: &UdpSocket) -> io::Result<UdpSocket> {
     socket.set_read_timeout(Some(Duration::from_millis(READ_TIMEOUT)))?;
     socket.try_clone()
 }
