@@ -85,9 +85,10 @@ ends_of_desks [] (d ∷ lasts) lines ends posts keeps all = elim keeps [ ]
 ends_of_desks (f ∷ firsts) [] lines ends posts keeps all = elim keeps [ ]
 ends_of_desks (f ∷ firsts) (d ∷ lasts) [] ends posts keeps all = elim posts [ ]
 ends_of_desks (f ∷ firsts) (d ∷ lasts) (l ∷ lines) [] posts keeps all = elim all [ ]
-ends_of_desks (f ∷ firsts) (d ∷ lasts) (l ∷ lines) (e ∷ ends) posts keeps all =
-    (end_of_desk f d l e all.0 posts.0 keeps.0,
-    ends_of_desks firsts lasts lines ends posts.1 keeps.1 all.1)
+ends_of_desks (f ∷ firsts) (d ∷ lasts) (l ∷ lines) (e ∷ ends) posts keeps all = (
+  end_of_desk f d l e all.0 posts.0 keeps.0,
+  ends_of_desks firsts lasts lines ends posts.1 keeps.1 all.1,
+)
 
 pub some_end : {E X : Type 0} (items : X → List (Option (Ended E))) (firsts lasts : List (Desk E))
     (lines : List (Poster E)) (ends : Option X) → AllZip IsPosterOf firsts lines

@@ -135,7 +135,11 @@ impl Answering {
     fn content(&self, alloc: Global, invite: &Unanswered) -> Result<Content, AllocError> {
         if self.shared.plan.makes_dialogs() {
             let Unanswered { before, offer, .. } = invite;
-            let body = self.shared.plan.body.to(alloc, self.shared.ip, *before, offer)?;
+            let body = self
+                .shared
+                .plan
+                .body
+                .to(alloc, self.shared.ip, *before, offer)?;
             return Ok(Content::of_body(body));
         }
         match &self.shared.plan.contact {

@@ -139,7 +139,10 @@ fn since_1970<R: Clock>(rt: &R) -> Result<u64, UaFault> {
 }
 
 /// A desk of one line with this capacity, and its poster.
-pub(crate) fn one_line<T: Drop>(alloc: Global, capacity: usize) -> Result<(Desk<T>, Poster<T>), NoMemory>
+pub(crate) fn one_line<T: Drop>(
+    alloc: Global,
+    capacity: usize,
+) -> Result<(Desk<T>, Poster<T>), NoMemory>
     ensures { IfOk result (λ made. IsPosterOf made.0 made.1) }
 {
     let (desk, mut posters) = open(alloc, 1, capacity)?;

@@ -153,10 +153,7 @@ fn unsent<V: User, O: Write + Drop>(own: u64, others: &[OtherStation<V, O>]) -> 
     unsent
 }
 
-fn write_errors<V: User, O: Write + Drop, E: Write>(
-    others: &[OtherStation<V, O>],
-    errors: &mut E,
-) {
+fn write_errors<V: User, O: Write + Drop, E: Write>(others: &[OtherStation<V, O>], errors: &mut E) {
     for other in others {
         let _ = errors.write_all(&other.errors);
     }
@@ -180,9 +177,7 @@ fn none_of(fault: Option<UaFault>) -> Result<(), UaFault> {
     }
 }
 
-fn none_of_others<V: User, O: Write + Drop>(
-    others: &[OtherStation<V, O>],
-) -> Result<(), UaFault> {
+fn none_of_others<V: User, O: Write + Drop>(others: &[OtherStation<V, O>]) -> Result<(), UaFault> {
     for other in others {
         none_of(other.station.fault)?;
     }

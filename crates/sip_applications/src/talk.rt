@@ -102,15 +102,7 @@ pub fn listen_at<
     let user = Answering::new(alloc, plan.clone()?);
     let others = other_agents(alloc, &endpoint, &plan, agents, others)?;
     talk(
-        rt,
-        alloc,
-        endpoint,
-        user,
-        others,
-        None,
-        turns,
-        notices,
-        errors,
+        rt, alloc, endpoint, user, others, None, turns, notices, errors,
     )
 }
 

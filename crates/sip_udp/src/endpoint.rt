@@ -1,6 +1,8 @@
 //! What a user agent over UDP needs to run.
 
-ghost use Rattle.std.specs.Prelude.{◌≡◌, ◌+◌, ◌*◌, ◌^◌, ◌<◌, ◌≤◌, IfOk, IfSome};
+ghost use Rattle.std.specs.Prelude.{◌≡◌, ◌^◌, ◌<◌, ◌≤◌, IfOk, IsSome, None};
+ghost use Rattle.std.specs.Option.{option_map};
+ghost use Rattle.sip_udp.specs.Admission.{share_of};
 ghost use Rattle.sip_agents.specs.Answers.{config_of};
 
 use crate::division::Division;
@@ -81,6 +83,9 @@ impl<F> Endpoint<F> {
         ensures some { 0 < result }
         ensures most { result ≤ 16 }
         ensures room { 1 < result → self.now.config.first < 2 ^ 58 }
+        ensures alone { IsSome self.now.record → result ≡ 1 }
+        ensures all { self.now.record ≡ None → self.now.past ≡ None
+            → self.now.config.first < 2 ^ 58 → result ≡ self.now.division.agents }
     {
         if self.record.is_some() || self.past.is_some() || self.config.first >= STRIPE {
             1
@@ -93,8 +98,8 @@ impl<F> Endpoint<F> {
     pub fn share_limit(&mut self, agents: usize)
         requires some { 0 < agents }
         requires most { agents ≤ 16 }
-        ensures limit { IfSome self.new.held_limit (λ limit. IfSome self.old.held_limit
-            (λ whole. (whole ≤ agents * limit) × (agents * limit < whole + agents))) }
+        ensures limit { self.new.held_limit
+            ≡ option_map (λ limit. share_of limit agents) self.old.held_limit }
         ensures same { self.new.config ≡ self.old.config }
     {
         self.held_limit = self.held_limit.map(|limit| share(limit, agents));
@@ -137,8 +142,7 @@ impl<F> Endpoint<F> {
 fn share(limit: u32, agents: usize) -> u32
     requires some { 0 < agents }
     requires most { agents ≤ 16 }
-    ensures enough { limit ≤ agents * result }
-    ensures fair { agents * result < limit + agents }
+    ensures { result ≡ share_of limit agents }
 {
     limit.div_ceil(agents as u32)
 }

@@ -1,9 +1,10 @@
 //! The listener: it reads datagrams on a thread of its own, and posts each to its agent.
 
-ghost use Rattle.std.specs.Prelude.{◌≡◌, ◌≢◌, ◌<◌, ◌≤◌, ℕ, List, length, IfOk, IfSome, OnOk, slice_get};
+ghost use Rattle.std.specs.Prelude.{◌≡◌, ◌≢◌, ◌<◌, ◌≤◌, ℕ, List, length, IfNone, IfOk, IfSome, Some, slice_get};
 ghost use Rattle.std.specs.List.{AllZip};
 ghost use Rattle.sip_desk.specs.Lines.{SameLine};
 ghost use Rattle.sip_round.specs.declared.round.Event.TheVariants.{Datagram as ADatagram};
+ghost use Rattle.sip_udp.specs.declared.fault.UaFault.TheVariants.{NoMemory};
 ghost use Rattle.sip_udp.specs.Hearing.{EndsLine, agent_of_datagram};
 
 use crate::bell::Bell;
@@ -85,7 +86,8 @@ pub fn hear<I: Inlet + Drop>(
     mut lines: Vec<Poster<Event>>,
     flags: Arc<Flags>,
 ) -> Heard
-    ensures { IfSome result.ends (λ ends. AllZip EndsLine lines.items ends.items) }
+    ensures ends { IfSome result.ends (λ ends. AllZip EndsLine lines.items ends.items) }
+    ensures memory { IfNone result.ends (result.fault ≡ Some NoMemory) }
 {
     let mut lost = 0;
     let posted = post_all(
@@ -102,13 +104,9 @@ pub fn hear<I: Inlet + Drop>(
 }
 
 // Ends the lines of a listener.
-fn finish_all(
-    alloc: Global,
-    lines: Vec<Poster<Event>>,
-    fault: Option<UaFault>,
-    lost: u64,
-) -> Heard
-    ensures { IfSome result.ends (λ ends. AllZip EndsLine lines.items ends.items) }
+fn finish_all(alloc: Global, lines: Vec<Poster<Event>>, fault: Option<UaFault>, lost: u64) -> Heard
+    ensures ends { IfSome result.ends (λ ends. AllZip EndsLine lines.items ends.items) }
+    ensures memory { IfNone result.ends (result.fault ≡ Some NoMemory) }
 {
     match ends_of(alloc, lines) {
         Ok(ends) => Heard {

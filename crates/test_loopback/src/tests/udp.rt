@@ -80,7 +80,11 @@ fn heard_after(
     let heard = hear(alloc, inlet, buffer, lines, flags.clone()?);
     assert!(rt; heard.fault == Some(UaFault::Socket));
     assert!(rt; flags.ended.load(Ordering::SeqCst));
-    assert!(rt; heard.ends.is_some_and(|ends| matches!(ends.as_slice(), [Some(_)])));
+    assert!(rt;
+        heard
+            .ends
+            .is_some_and(|ends| matches!(ends.as_slice(), [Some(_)]))
+    );
     Ok(desk.collect(4)?.len())
 }
 

@@ -19,6 +19,9 @@ loop-other-preserved g c =
 pub settle-requires-in-Some-pop-2 : goal.settle-requires-in-Some-pop-2
 settle-requires-in-Some-pop-2 g c =
     own_end EndsStation (λ other. other.station.desk) c.args.own.now c.loop-other.others.items
-    c.loop-other.ends.items c.pop-2.new.self.items c.in-Some-pop-2.end (omega (arith, c.in_default.ensures.cases.0,
-    c.loop-other.others.ok.0))
+    c.loop-other.ends.items c.pop-2.new.self.items c.in-Some-pop-2.end (omega (
+      arith,
+      c.in_default.ensures.cases.0,
+      c.loop-other.others.ok.0,
+    ))
     c.in-Some-pop-2.ensures.items c.loop-other.invariant

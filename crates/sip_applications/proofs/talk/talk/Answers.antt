@@ -25,7 +25,8 @@ conclude-requires g c =
     c.in_ok-others-2.was c.run_all-own.ensures.others in
     some_end (λ ends. ends.items) (desks_of c.in_ok-own.own c.in_ok-others.others.items)
     (desks_of c.run_all-own.result.0 c.in_ok-others-2.others.items) c.in_ok-others.lines.items
-    c.join-heard.result.ends c.in_ok-others.ensures
-    (c.run_all-own.ensures.own,
-    zip_map KeepsLines (λ other. other.station.desk) c.in_ok-others.others.items
-    c.in_ok-others-2.others.items kept) ends
+    c.join-heard.result.ends c.in_ok-others.ensures (
+      c.run_all-own.ensures.own,
+      zip_map KeepsLines (λ other. other.station.desk) c.in_ok-others.others.items
+          c.in_ok-others-2.others.items kept,
+    ) ends
