@@ -237,13 +237,9 @@ impl<U: User, F: RecordFile> Turns<U, F> {
             kind: self.kind,
             drops: None,
         };
-        write_notices(
-            self.alloc,
-            notices,
-            telling,
-            round.events.as_slice(),
-            outputs,
-        )
+        let events = round.events.as_slice();
+        write_notices(self.alloc, notices, telling, events, outputs)?;
+        notices.flush().map_err(|_| UaFault::Output)
     }
 
     /// Takes `turns` turns, or fewer if the time is over, the user wants no more, or the listener
@@ -399,6 +395,7 @@ impl<U: User, F: RecordFile> Turns<U, F> {
             write_ids(self.alloc, notices, number, events)?;
         }
         write_notices(self.alloc, notices, telling, events, &outputs)?;
+        notices.flush().map_err(|_| UaFault::Output)?;
         Ok(events.len() >= self.most_events())
     }
 
