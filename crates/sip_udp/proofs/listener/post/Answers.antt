@@ -1,7 +1,8 @@
 -- `post` leaves all other lines as they were.
-use Rattle.std.proofs.Common.{rules, subst, ◌∙◌}
+use Rattle.std.proofs.Common.{length, ap, refl, subst, ◌∙◌}
 use Rattle.std.proofs.lemmas.List.{get_or_default}
 use Rattle.sip_desk.specs.Lines.{SameLine}
+use Rattle.sip_udp.specs.Hearing.{agent_of_datagram}
 use Rattle.sip_udp.proofs.Lined.{get_other, line_same, zip_same, zip_set}
 use Rattle.sip_udp.proofs.listener.post.Goals as goal
 
@@ -24,5 +25,8 @@ returns-clause-same c =
 
 pub returns-clause-others : goal.returns-clause-others
 returns-clause-others c = λ other is_not.
+    let agents = length c.args.lines.now in
+    let agent = c.in_ok-agent.ensures c.args.from c.in_ok-bytes.bytes refl
+    ∙ ap (agent_of_datagram agents) c.in_ok-bytes.ensures in
     get_other c.args.lines.now c.in_ok-agent.agent c.post.new.self other
-    (λ is. is_not (is ∙ search rules))
+    (λ is. is_not (is ∙ agent))
