@@ -1,3 +1,3 @@
-pub mod Ends
 pub mod Fed
+pub mod Lined
 pub mod OwnUri

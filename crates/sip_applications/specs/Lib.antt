@@ -1,1 +1,2 @@
 pub mod Piping
+pub mod Stations

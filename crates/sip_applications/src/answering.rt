@@ -2,8 +2,8 @@
 
 use crate::answer::{answer, contact, progress, respond, ringing, unavailable};
 use crate::hang_up::nothing;
-use crate::listen_plan::ListenPlan;
 use crate::made_dialogs::MadeDialogs;
+use crate::shared_plan::SharedPlan;
 use sip_message::{CallId, Content, Id};
 use sip_round::Event;
 use sip_text::Text;
@@ -12,6 +12,7 @@ use sip_user::{Notice, Refusal, Reliability};
 use std::alloc::{AllocError, Global};
 use std::io::Write;
 use std::mem;
+use std::sync::Arc;
 
 /// An INVITE that isn't answered yet.
 #[derive(Drop)]
@@ -31,24 +32,18 @@ struct Unanswered {
 /// INVITEs that aren't answered yet get 480, and each dialog gets a BYE.
 #[derive(Drop)]
 pub(crate) struct Answering {
-    // The agent's own IP address.
-    ip: [u8; 4],
-    plan: ListenPlan,
+    shared: Arc<SharedPlan>,
     unanswered: Vec<Unanswered>,
     dialogs: MadeDialogs,
-    // How many calls got a 2xx.
-    answered: u32,
     is_leaving: bool,
 }
 
 impl Answering {
-    pub(crate) fn new(alloc: Global, ip: [u8; 4], plan: ListenPlan) -> Answering {
+    pub(crate) fn new(alloc: Global, shared: Arc<SharedPlan>) -> Answering {
         Answering {
-            ip,
-            plan,
+            shared,
             unanswered: Vec::new(alloc),
             dialogs: MadeDialogs::new(alloc),
-            answered: 0,
             is_leaving: false,
         }
     }
@@ -73,10 +68,10 @@ impl Answering {
             events.push(self.final_answer(alloc, &invite)?)?;
             return Ok(());
         }
-        if self.plan.makes_dialogs() {
+        if self.shared.plan.makes_dialogs() {
             self.dialogs.add(alloc, call_id, *id, tags)?;
         }
-        if !self.plan.reliable {
+        if !self.shared.plan.reliable {
             return self.alert(alloc, now, invite, events);
         }
         events.push(progress(alloc, call_id, *id)?)?;
@@ -92,7 +87,7 @@ impl Answering {
         mut invite: Unanswered,
         events: &mut Vec<Event>,
     ) -> Result<(), AllocError> {
-        let Some(ring) = self.plan.ring else {
+        let Some(ring) = self.shared.plan.ring else {
             events.push(self.final_answer(alloc, &invite)?)?;
             return Ok(());
         };
@@ -127,23 +122,27 @@ impl Answering {
     }
 
     fn final_answer(&mut self, alloc: Global, invite: &Unanswered) -> Result<Event, AllocError> {
-        if invite.before == 0 && self.plan.makes_dialogs() {
-            self.answered = self.answered.saturating_add(1);
+        if invite.before == 0 && self.shared.plan.makes_dialogs() {
+            self.shared.count_answered();
         }
         let Unanswered { call_id, id, .. } = invite;
-        let status = self.plan.status;
+        let status = self.shared.plan.status;
         let content = self.content(alloc, invite)?;
         respond(alloc, call_id, *id, status, Reliability::Plain, content)
     }
 
     // What a final response has besides its status: a 2xx has the body.
     fn content(&self, alloc: Global, invite: &Unanswered) -> Result<Content, AllocError> {
-        if self.plan.makes_dialogs() {
+        if self.shared.plan.makes_dialogs() {
             let Unanswered { before, offer, .. } = invite;
-            let body = self.plan.body.to(alloc, self.ip, *before, offer)?;
+            let body = self
+                .shared
+                .plan
+                .body
+                .to(alloc, self.shared.ip, *before, offer)?;
             return Ok(Content::of_body(body));
         }
-        match &self.plan.contact {
+        match &self.shared.plan.contact {
             Some(uri) => contact(alloc, uri.clone()?),
             None => Ok(nothing(alloc)),
         }
@@ -272,6 +271,6 @@ impl User for Answering {
     }
 
     fn is_satisfied(&self) -> bool {
-        self.answered >= self.plan.must_answer
+        self.shared.is_satisfied()
     }
 }

@@ -4,14 +4,19 @@
 
 mod answer;
 mod answering;
+mod barrier;
 mod call_plan;
 mod calling;
 mod hang_up;
 mod listen_plan;
 mod made_dialogs;
+mod other_station;
 mod pipe_input;
 mod piped;
 mod sdp;
+mod shared_plan;
+mod station;
+mod stations;
 mod talk;
 mod waiting;
 mod wrong_word;

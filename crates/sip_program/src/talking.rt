@@ -20,7 +20,9 @@ use clap::ArgMatches;
 use sip_applications::{AnswerBody, CallPlan, ListenPlan, agent, call_from, listen_at};
 use sip_message::{Addr, CallId, Uri};
 use sip_text::Text;
-use sip_udp::{Division, Endpoint, InputEnd, Keeping, Past, QueuedWriter, UaFault, Written};
+use sip_udp::{
+    Division, Endpoint, InputEnd, Keeping, Past, QueuedEnd, QueuedWriter, UaFault, Written,
+};
 use std::alloc::{AllocError, Global};
 use std::fs::{self, File};
 use std::io::{self, Write};
@@ -76,8 +78,17 @@ fn listen_by<'a, T: Threads + Host, N: Write + Send + Drop + 'static, E: Write>(
     };
     let turns = words.length.turns();
     endpoint.is_announced = turns > 0;
-    let mut notices = notice_writer(rt, alloc, stream)?;
-    let end = listen_at(rt, alloc, endpoint, plan, turns, &mut notices, errors);
+    let (mut notices, others) = notice_writers(rt, alloc, stream, words.agents - 1)?;
+    let end = listen_at(
+        rt,
+        alloc,
+        endpoint,
+        plan,
+        turns,
+        &mut notices,
+        others,
+        errors,
+    );
     ended(end, notices.finish(rt), errors)
 }
 
@@ -282,8 +293,19 @@ fn notice_writer<'a, T: Threads + Host, N: Write + Send + Drop + 'static>(
     alloc: Global,
     stream: N,
 ) -> Result<QueuedWriter, Failure<'a>> {
-    match QueuedWriter::start(rt, alloc, stream) {
-        Ok(writer) => Ok(writer),
+    let (writer, _) = notice_writers(rt, alloc, stream, 0)?;
+    Ok(writer)
+}
+
+// The writer of what a listener tells, and so many other ends of it, for its other agents.
+fn notice_writers<'a, T: Threads + Host, N: Write + Send + Drop + 'static>(
+    rt: &T,
+    alloc: Global,
+    stream: N,
+    others: usize,
+) -> Result<(QueuedWriter, Vec<QueuedEnd>), Failure<'a>> {
+    match QueuedWriter::start_with(rt, alloc, stream, others) {
+        Ok(writers) => Ok(writers),
         Err(fault) => Err(Failure::unknown(TalkFault::Ua(fault))),
     }
 }

@@ -1,4 +1,5 @@
 pub mod Admitted
+pub mod Lined
 pub mod ReadLines
 pub mod Sendings
 pub mod Told

@@ -1,5 +1,5 @@
 -- Which datagrams an agent that holds much doesn't take.
-use Rattle.std.specs.Prelude.{ℕ, ◌+◌, ◌-◌, ◌*◌, ◌^◌, min, nat_lt, Bool, true, false, not, ◌&&◌, ◌||◌, List, codes, length, Option, None, Some, Result, Ok, Err, ◌==◌, if◌then◌else◌}
+use Rattle.std.specs.Prelude.{ℕ, ◌+◌, ◌-◌, ◌*◌, ◌/◌, ◌%◌, ◌^◌, min, nat_lt, Bool, true, false, not, ◌&&◌, ◌||◌, List, codes, length, Option, None, Some, Result, Ok, Err, ◌==◌, if◌then◌else◌}
 use Rattle.std.specs.Str.{bytes_eq}
 use Rattle.sip_message.specs.Cut.{spread_shard}
 use Rattle.sip_message.specs.Party.{tag_of}
@@ -53,3 +53,7 @@ is_shed config rounds load (Command command) = false
 -- stops at the largest number of 64 bits
 abbrev pub shed_after : ℕ → ℕ → ℕ → ℕ
 shed_after shed given admitted = min (shed + (given - admitted)) (2 ^ 64 - 1)
+
+-- what each of so many agents has of a limit: a fair share, rounded up
+abbrev pub share_of : ℕ → ℕ → ℕ
+share_of limit agents = limit / agents + min 1 (limit % agents)

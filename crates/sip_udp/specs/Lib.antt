@@ -1,4 +1,5 @@
 pub mod Admission
+pub mod Hearing
 pub mod KeepAlive
 pub mod LineEnd
 pub mod Prepared

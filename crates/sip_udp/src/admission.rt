@@ -1,6 +1,6 @@
 //! Which datagrams get into the rounds of an agent that holds much.
 
-ghost use Rattle.std.specs.Prelude.{◌≡◌, ◌++◌, ◌∷◌, [], IfOk, List, Ok, OnOk, filter, length, not};
+ghost use Rattle.std.specs.Prelude.{◌≡◌, ◌+◌, ◌-◌, ◌^◌, ◌++◌, ◌∷◌, [], IfOk, List, Ok, OnOk, filter, length, min, not};
 ghost use Rattle.std.specs.Option.{option_map};
 ghost use Rattle.sip_reader.specs.ReadMessage.{Gives, message_at};
 ghost use Rattle.sip_round.specs.Answers.{StandsFor, past_of};
@@ -10,8 +10,6 @@ ghost use Rattle.sip_round.specs.declared.round.Round.{Round as ARound};
 ghost use Rattle.sip_udp.specs.Admission as spec;
 ghost use Rattle.sip_udp.specs.Admission.{is_shed, shard_of};
 
-use crate::group::live_of;
-use sip_agents::{Agents, Destination, destination_of};
 use sip_message::{Message, ReadFault, Spread};
 use sip_reader::read;
 use sip_round::{Agent, Event};
@@ -78,26 +76,12 @@ impl Admission {
         Ok(admitted)
     }
 
-    /// The same with several agents, by what they hold together.
-    ///
-    /// # Errors
-    ///
-    /// Memory ran out. Then the events are lost.
-    pub(crate) fn admit_to_several(
-        &mut self,
-        alloc: Global,
-        agents: &Agents<Spread, Spread>,
-        events: Vec<Event>,
-    ) -> Result<Vec<Event>, AllocError>
+    /// Counts what another agent shed as well.
+    pub(crate) fn add(&mut self, other: Admission)
         ensures same { self.new.most ≡ self.old.most }
-        ensures count { IfOk result (λ admitted. self.new.shed
-            ≡ spec.shed_after self.old.shed (length events.items) (length admitted.items)) }
+        ensures sum { self.new.shed ≡ min (self.old.shed + other.shed) (2 ^ 64 - 1) }
     {
-        let load = load_of(self.most, live_of(agents.agents()).0);
-        let count = events.len();
-        let admitted = admitted_to(alloc, agents, load, events)?;
-        self.count_shed(count, admitted.len());
-        Ok(admitted)
+        self.shed = self.shed.saturating_add(other.shed);
     }
 
     // Counts what was shed of so many events, of which so many were admitted.
@@ -107,42 +91,6 @@ impl Admission {
     {
         let shed = given.saturating_sub(admitted) as u64;
         self.shed = self.shed.saturating_add(shed);
-    }
-}
-
-// The events without the datagrams that are shed at this load by the agent that they are for.
-fn admitted_to(
-    alloc: Global,
-    agents: &Agents<Spread, Spread>,
-    load: Load,
-    events: Vec<Event>,
-) -> Result<Vec<Event>, AllocError> {
-    if let Load::Low = load {
-        return Ok(events);
-    }
-    let mut admitted = Vec::with_capacity(alloc, events.len())?;
-    for event in events {
-        if !is_shed_by_its_agent(alloc, agents, load, &event)? {
-            admitted.push(event)?;
-        }
-    }
-    Ok(admitted)
-}
-
-// Whether the agent that an event is for sheds it at this load.
-fn is_shed_by_its_agent(
-    alloc: Global,
-    agents: &Agents<Spread, Spread>,
-    load: Load,
-    event: &Event,
-) -> Result<bool, AllocError> {
-    let number = match destination_of(alloc, &Spread, agents.count(), event)? {
-        Destination::One(number) => number,
-        Destination::All => return Ok(false),
-    };
-    match agents.agents().get(number) {
-        Some(agent) => is_shed_at(alloc, agent, load, event),
-        None => Ok(false),
     }
 }
 

@@ -91,6 +91,25 @@ impl Counts {
         Ok(())
     }
 
+    /// Adds the counts of another agent at the same address. The most that this one and the other
+    /// held are added, too, though they may not have held them at one time.
+    ///
+    /// # Errors
+    ///
+    /// Memory ran out.
+    pub(crate) fn add_all(&mut self, other: &Counts) -> Result<(), AllocError> {
+        self.rounds = self.rounds.saturating_add(other.rounds);
+        self.datagrams = self.datagrams.saturating_add(other.datagrams);
+        self.keep_alives = self.keep_alives.saturating_add(other.keep_alives);
+        self.asked = self.asked.saturating_add(other.asked);
+        self.again = self.again.saturating_add(other.again);
+        self.most_held = self.most_held.saturating_add(other.most_held);
+        for dropped in &other.dropped {
+            self.add_dropped(dropped.reason, dropped.count)?;
+        }
+        self.outcomes.add_all(&other.outcomes)
+    }
+
     fn add_output(
         &mut self,
         now: u64,
@@ -110,20 +129,20 @@ impl Counts {
                     self.keep_alives = self.keep_alives.saturating_add(1);
                     Ok(())
                 }
-                _ => self.add_dropped(*reason),
+                _ => self.add_dropped(*reason, 1),
             },
             Output::Notice(_) => Ok(()),
         }
     }
 
-    fn add_dropped(&mut self, reason: DropReason) -> Result<(), AllocError> {
+    fn add_dropped(&mut self, reason: DropReason, count: u64) -> Result<(), AllocError> {
         for dropped in self.dropped.iter_mut() {
             if dropped.reason == reason {
-                dropped.count = dropped.count.saturating_add(1);
+                dropped.count = dropped.count.saturating_add(count);
                 return Ok(());
             }
         }
-        self.dropped.push(Dropped { reason, count: 1 })?;
+        self.dropped.push(Dropped { reason, count })?;
         Ok(())
     }
 }

@@ -12,9 +12,6 @@ const SHARED: usize = 2_000;
 /// least with 10 to 100 events a round. Several threads need large rounds.
 const BEST: usize = 128;
 
-/// The fewest events of a round that several agents run at once.
-const SHARED_BY_AGENTS: usize = 32;
-
 /// How many agents share the calls, how many shards the transactions and calls of each are cut into,
 /// and how many threads work on a round of one agent.
 #[derive(Clone, Copy)]
@@ -43,7 +40,7 @@ impl Division {
         if self.workers > 1 {
             MAX_EVENTS_OF_ROUND
         } else {
-            BEST * self.agents
+            BEST
         }
     }
 
@@ -54,17 +51,5 @@ impl Division {
         ensures most { result ≤ 64 }
     {
         if events < SHARED { 1 } else { self.workers }
-    }
-
-    /// How many of several agents run at once in a round of so many events.
-    pub(crate) fn agents_at_once(self, events: usize) -> usize
-        ensures some { 0 < result }
-        ensures most { result ≤ 64 }
-    {
-        if events < SHARED_BY_AGENTS {
-            1
-        } else {
-            self.agents
-        }
     }
 }

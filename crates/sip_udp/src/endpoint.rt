@@ -1,9 +1,16 @@
 //! What a user agent over UDP needs to run.
 
+ghost use Rattle.std.specs.Prelude.{◌≡◌, ◌^◌, ◌<◌, ◌≤◌, IfOk, IsSome, None};
+ghost use Rattle.std.specs.Option.{option_map};
+ghost use Rattle.sip_udp.specs.Admission.{share_of};
+ghost use Rattle.sip_agents.specs.Answers.{config_of};
+
 use crate::division::Division;
+use crate::fault::UaFault;
 use crate::input_end::InputEnd;
 use crate::past::Past;
 use crate::record::Keeping;
+use sip_agents::{STRIPE, config_of};
 use sip_files::FileKind;
 use sip_message::Addr;
 use sip_round::Config;
@@ -38,7 +45,7 @@ pub struct Endpoint<F> {
     /// After how many seconds the turns end, if at all.
     pub seconds: Option<u32>,
     /// How many transactions are to be held at most, if there is a limit. Above it requests are
-    /// shed.
+    /// shed. Of several agents each has a fair share of the limit.
     pub held_limit: Option<u32>,
     /// The input whose end ends the turns of `listen` and `call`, if one does.
     pub input: Option<Arc<InputEnd>>,
@@ -69,4 +76,73 @@ impl<F> Endpoint<F> {
             input: None,
         }
     }
+    /// How many agents it has, each at its own thread: as many as its division says. There is one
+    /// alone if the run is recorded, or if the number of its first round leaves no room for those of
+    /// others.
+    pub fn agents(&self) -> usize
+        ensures some { 0 < result }
+        ensures most { result ≤ 16 }
+        ensures room { 1 < result → self.now.config.first < 2 ^ 58 }
+        ensures alone { IsSome self.now.record → result ≡ 1 }
+        ensures all { self.now.record ≡ None → self.now.past ≡ None
+            → self.now.config.first < 2 ^ 58 → result ≡ self.now.division.agents }
+    {
+        if self.record.is_some() || self.past.is_some() || self.config.first >= STRIPE {
+            1
+        } else {
+            self.division.agents
+        }
+    }
+
+    /// Leaves a fair share of the limit of what is held, for one of so many agents.
+    pub fn share_limit(&mut self, agents: usize)
+        requires some { 0 < agents }
+        requires most { agents ≤ 16 }
+        ensures limit { self.new.held_limit
+            ≡ option_map (λ limit. share_of limit agents) self.old.held_limit }
+        ensures same { self.new.config ≡ self.old.config }
+    {
+        self.held_limit = self.held_limit.map(|limit| share(limit, agents));
+    }
+
+    /// The endpoint of another agent, the one with this number, at the same socket. Nothing of it is
+    /// recorded.
+    ///
+    /// # Errors
+    ///
+    /// `Socket`, or `NoMemory`.
+    pub fn of_agent(&self, number: usize) -> Result<Endpoint<Vec<u8>>, UaFault>
+        requires number { number < 16 }
+        requires room { self.now.config.first < 2 ^ 58 }
+        ensures { IfOk result (λ own. own.config ≡ config_of self.now.config number) }
+    {
+        let Ok(socket) = self.socket.try_clone() else {
+            return Err(UaFault::Socket);
+        };
+        Ok(Endpoint {
+            socket,
+            config: config_of(self.config, number),
+            division: self.division,
+            record: None,
+            keeping: Keeping::MayFail,
+            past: None,
+            kind: self.kind,
+            is_counted: self.is_counted,
+            is_announced: false,
+            tells_drops: self.tells_drops,
+            tells_ids: self.tells_ids,
+            seconds: self.seconds,
+            held_limit: self.held_limit,
+            input: self.input.clone()?,
+        })
+    }
+}
+
+// What each of so many agents has of a limit: a fair share, rounded up.
+fn share(limit: u32, agents: usize) -> u32
+    requires some { 0 < agents }
+    requires most { agents ≤ 16 }
+    ensures { result ≡ share_of limit agents }
+{
+    limit.div_ceil(agents as u32)
 }

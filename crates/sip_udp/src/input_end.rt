@@ -4,14 +4,19 @@ use crate::fault::UaFault;
 use std::alloc::Global;
 use std::io::{ErrorKind, Read};
 use std::sync::Arc;
-use std::sync::atomic::{AtomicBool, Ordering};
+use std::sync::atomic::{AtomicBool, AtomicU64, Ordering};
 use std::thread::{self, Threads};
+
+/// The moment of an end that nobody has seen.
+const UNSEEN: u64 = u64::MAX;
 
 /// How far an input was read. An input that can't be read never ends.
 #[derive(Drop)]
 pub struct InputEnd {
     has_bytes: AtomicBool,
     has_ended: AtomicBool,
+    // The moment at which somebody saw that it has ended.
+    seen: AtomicU64,
 }
 
 impl InputEnd {
@@ -28,6 +33,7 @@ impl InputEnd {
         let end = InputEnd {
             has_bytes: AtomicBool::new(false),
             has_ended: AtomicBool::new(false),
+            seen: AtomicU64::new(UNSEEN),
         };
         let Ok(end) = Arc::new(alloc, end) else {
             return Err(UaFault::NoMemory);
@@ -47,6 +53,16 @@ impl InputEnd {
     /// Whether a byte came before the end.
     pub(crate) fn has_bytes(&self) -> bool {
         self.has_bytes.load(Ordering::SeqCst)
+    }
+
+    /// The moment, in ms since the start, at which its end was first seen: `now`, unless another
+    /// agent saw it before.
+    pub(crate) fn seen_at(&self, now: u64) -> u64 {
+        let order = Ordering::SeqCst;
+        match self.seen.compare_exchange(UNSEEN, now, order, order) {
+            Ok(_) => now,
+            Err(before) => before,
+        }
     }
 
     fn read_all<I: Read + Drop>(&self, mut input: I) {

@@ -1,13 +1,18 @@
-//! The listener: it reads datagrams on a thread of its own, and posts them.
+//! The listener: it reads datagrams on a thread of its own, and posts each to its agent.
 
-ghost use Rattle.std.specs.Prelude.{◌≡◌, IfSome};
-ghost use Rattle.sip_desk.specs.Lines.{IsEndOfLine, SameLine};
+ghost use Rattle.std.specs.Prelude.{◌≡◌, ◌≢◌, ◌<◌, ◌≤◌, ℕ, List, length, IfNone, IfOk, IfSome, Some, slice_get};
+ghost use Rattle.std.specs.List.{AllZip};
+ghost use Rattle.sip_desk.specs.Lines.{SameLine};
+ghost use Rattle.sip_round.specs.declared.round.Event.TheVariants.{Datagram as ADatagram};
+ghost use Rattle.sip_udp.specs.declared.fault.UaFault.TheVariants.{NoMemory};
+ghost use Rattle.sip_udp.specs.Hearing.{EndsLine, agent_of_datagram};
 
 use crate::bell::Bell;
 use crate::fault::UaFault;
 use crate::inlet::{Inlet, Received};
+use sip_agents::{Destination, MAX_AGENTS, destination_of};
 use sip_desk::{Ended, Poster};
-use sip_message::Addr;
+use sip_message::{Addr, Spread};
 use sip_round::Event;
 use sip_text::Text;
 use std::alloc::{AllocError, Global};
@@ -16,6 +21,9 @@ use std::sync::atomic::{AtomicBool, Ordering};
 
 /// How many receives may fail in a row.
 const MAX_FAILED: u32 = 100;
+
+/// The agent of what isn't divided.
+const FIRST: usize = 0;
 
 /// What the listener and the turns tell each other.
 #[derive(Drop)]
@@ -60,31 +68,72 @@ impl Flags {
 /// What is left of a listener.
 #[derive(Drop)]
 pub struct Heard {
-    /// The end of its line, unless the desk is gone.
-    pub end: Option<Ended<Event>>,
+    /// The end of each line, unless its desk is gone. No ends if memory ran out.
+    pub ends: Option<Vec<Option<Ended<Event>>>>,
     /// Why it ended before it was told to.
     pub fault: Option<UaFault>,
-    /// How many datagrams the line had no room for.
+    /// How many datagrams their lines had no room for.
     pub lost: u64,
 }
 
-/// Posts each datagram that comes in until it is told to stop, and then ends the line. If the line
-/// has no room for a datagram, the datagram is lost.
+/// Posts each datagram that comes in until it is told to stop, and then ends the lines. There is a
+/// line for each agent, up to 16: a datagram goes to the agent of its Call-ID, and without one to
+/// the first. If its line has no room for a datagram, the datagram is lost.
 pub fn hear<I: Inlet + Drop>(
     alloc: Global,
     mut inlet: I,
     mut buffer: Vec<u8>,
-    mut line: Poster<Event>,
+    mut lines: Vec<Poster<Event>>,
     flags: Arc<Flags>,
 ) -> Heard
-    ensures { IfSome result.end (λ end. IsEndOfLine line end) }
+    ensures ends { IfSome result.ends (λ ends. AllZip EndsLine lines.items ends.items) }
+    ensures memory { IfNone result.ends (result.fault ≡ Some NoMemory) }
 {
     let mut lost = 0;
-    let posted = post_all(alloc, &mut inlet, &mut buffer, &mut line, &flags, &mut lost);
-    let fault = posted.err();
-    let end = line.finish().ok();
+    let posted = post_all(
+        alloc,
+        &mut inlet,
+        &mut buffer,
+        &mut lines,
+        &flags,
+        &mut lost,
+    );
+    let heard = finish_all(alloc, lines, posted.err(), lost);
     flags.end();
-    Heard { end, fault, lost }
+    heard
+}
+
+// Ends the lines of a listener.
+fn finish_all(alloc: Global, lines: Vec<Poster<Event>>, fault: Option<UaFault>, lost: u64) -> Heard
+    ensures ends { IfSome result.ends (λ ends. AllZip EndsLine lines.items ends.items) }
+    ensures memory { IfNone result.ends (result.fault ≡ Some NoMemory) }
+{
+    match ends_of(alloc, lines) {
+        Ok(ends) => Heard {
+            ends: Some(ends),
+            fault,
+            lost,
+        },
+        Err(AllocError) => Heard {
+            ends: None,
+            fault: Some(UaFault::NoMemory),
+            lost,
+        },
+    }
+}
+
+// The ends of these lines.
+fn ends_of(
+    alloc: Global,
+    lines: Vec<Poster<Event>>,
+) -> Result<Vec<Option<Ended<Event>>>, AllocError>
+    ensures { IfOk result (λ ends. AllZip EndsLine lines.items ends.items) }
+{
+    let mut ends = Vec::with_capacity(alloc, lines.len())?;
+    for line in lines {
+        ends.push(line.finish().ok())?;
+    }
+    Ok(ends)
 }
 
 // Posts datagrams until it is told to stop.
@@ -92,11 +141,11 @@ fn post_all<I: Inlet>(
     alloc: Global,
     inlet: &mut I,
     buffer: &mut [u8],
-    line: &mut Poster<Event>,
+    lines: &mut [Poster<Event>],
     flags: &Flags,
     lost: &mut u64,
 ) -> Result<(), UaFault>
-    ensures { SameLine line.old line.new }
+    ensures { AllZip SameLine lines.old lines.new }
 {
     let mut failed = 0;
     for _ in 0..u64::MAX {
@@ -105,7 +154,7 @@ fn post_all<I: Inlet>(
         }
         match inlet.receive(buffer) {
             Received::Datagram { from, length } => {
-                if !post(alloc, line, from, &buffer[..length])? {
+                if !post(alloc, lines, from, &buffer[..length])? {
                     *lost = lost.saturating_add(1);
                 }
                 flags.ring();
@@ -119,15 +168,36 @@ fn post_all<I: Inlet>(
     Ok(())
 }
 
-// Posts a datagram if there is room, and says whether there was.
+// Posts a datagram to its agent if there is room, and says whether there was.
 fn post(
     alloc: Global,
-    line: &mut Poster<Event>,
+    lines: &mut [Poster<Event>],
     from: Addr,
     bytes: &[u8],
 ) -> Result<bool, AllocError>
-    ensures { SameLine line.old line.new }
+    ensures same { AllZip SameLine lines.old lines.new }
+    ensures others { (other : ℕ) → other ≢ agent_of_datagram (length lines.old) bytes.now
+        → slice_get lines.new other ≡ slice_get lines.old other }
 {
     let bytes = Text::copy_of(alloc, bytes)?;
-    Ok(line.post(Event::Datagram { from, bytes }).is_ok())
+    let event = Event::Datagram { from, bytes };
+    let agent = agent_of(alloc, lines.len(), &event)?;
+    if agent >= lines.len() {
+        return Ok(false);
+    }
+    Ok(lines[agent].post(event).is_ok())
+}
+
+// Which of so many agents a datagram is for. With one agent no Call-ID is looked for.
+fn agent_of(alloc: Global, agents: usize, event: &Event) -> Result<usize, AllocError>
+    ensures { IfOk result (λ agent. (from : Addr) (bytes : List ℕ) → event.now ≡ ADatagram from bytes
+        → agent ≡ agent_of_datagram agents bytes) }
+{
+    if agents < 2 || agents > MAX_AGENTS {
+        return Ok(FIRST);
+    }
+    match destination_of(alloc, &Spread, agents, event)? {
+        Destination::One(agent) => Ok(agent),
+        Destination::All => Ok(FIRST),
+    }
 }

@@ -27,9 +27,10 @@ pub(crate) struct Telling {
     pub(crate) drops: Option<u64>,
 }
 
-/// Writes the line of each notice as it stands in an output file, and flushes after each. If drops
-/// are told, it writes a line for each, except those of keep-alives. In a session, the header lines
-/// of the datagram that a notice is about stand before the notice's line.
+/// Writes the line of each notice as it stands in an output file. If drops are told, it writes a
+/// line for each, except those of keep-alives. In a session, the header lines of the datagram that a
+/// notice is about stand before the notice's line. What is told of an output is written at once, and
+/// nothing is flushed.
 pub(crate) fn write_notices<W: Write>(
     alloc: Global,
     writer: &mut W,
@@ -42,7 +43,9 @@ pub(crate) fn write_notices<W: Write>(
         × Appends (W.contents writer.old) (W.contents writer.new) text) }
 {
     for placed in outputs {
-        tell(alloc, writer, telling, events, placed)?;
+        let mut text = Vec::new(alloc);
+        tell(alloc, &mut text, telling, events, placed)?;
+        write_text(writer, &text)?;
     }
     Ok(())
 }
@@ -59,7 +62,7 @@ pub(crate) fn write_ids<W: Write>(
         place = place.saturating_add(1);
         if let Event::Command(_) = event {
             let line = format!(in alloc; "asked {round}.{place}\n")?;
-            put_line(writer, line.as_bytes())?;
+            write_text(writer, line.as_bytes())?;
         }
     }
     Ok(())
@@ -173,7 +176,7 @@ fn tell_drop<W: Write>(
         Some(Event::Datagram { bytes, .. }) if is_keep_alive(bytes.as_slice()) => Ok(()),
         Some(Event::Datagram { from, bytes }) => {
             let line = dropped_line(alloc, id, reason, *from, bytes.as_slice())?;
-            put_line(writer, &line)
+            write_text(writer, &line)
         }
         _ => {
             let place = id.place;
@@ -187,16 +190,7 @@ fn write_line<W: Write>(alloc: Global, writer: &mut W, output: &Output) -> Resul
         (output_line output.now)) }
 {
     let line = write_output(alloc, output)?;
-    put_line(writer, &line)
-}
-
-fn put_line<W: Write>(writer: &mut W, line: &[u8]) -> Result<(), UaFault>
-    ensures { OnOk result (Appends (W.contents writer.old) (W.contents writer.new) line.now) }
-{
-    match put(writer, line) {
-        Ok(()) => Ok(()),
-        Err(_) => Err(UaFault::Output),
-    }
+    write_text(writer, &line)
 }
 
 /// Writes all bytes, and flushes.

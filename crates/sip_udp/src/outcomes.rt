@@ -79,6 +79,23 @@ impl Outcomes {
         Ok(())
     }
 
+    /// Adds the outcomes of another agent, whose ids are others.
+    ///
+    /// # Errors
+    ///
+    /// Memory ran out.
+    pub(crate) fn add_all(&mut self, other: &Outcomes) -> Result<(), AllocError> {
+        self.invites = self.invites.saturating_add(other.invites);
+        self.answered = self.answered.saturating_add(other.answered);
+        self.rejected = self.rejected.saturating_add(other.rejected);
+        self.cancelled = self.cancelled.saturating_add(other.cancelled);
+        self.unanswered = self.unanswered.saturating_add(other.unanswered);
+        for id in &other.open {
+            self.open.insert(*id)?;
+        }
+        Ok(())
+    }
+
     fn add_command(&mut self, id: Id, command: &UserCommand) -> Result<(), AllocError> {
         match command {
             UserCommand::Invite(_) => self.begin(id),

@@ -52,7 +52,7 @@ impl TimeLimit {
     }
 
     /// Looks, at the moment `now`, whether the input has ended. An input that was empty from the
-    /// start never ends.
+    /// start never ends; agents that share one agree on that.
     pub fn look(&mut self, now: u64)
         ensures sooner { self.new.until ≤ self.old.until }
         ensures ended { self.new.has_input_ended ≡ false → self.new.until ≡ self.old.until }
@@ -63,7 +63,7 @@ impl TimeLimit {
         if !input.has_ended() {
             return;
         }
-        let is_empty = now < EMPTY && !input.has_bytes();
+        let is_empty = input.seen_at(now) < EMPTY && !input.has_bytes();
         self.input = None;
         if !is_empty {
             self.has_input_ended = true;

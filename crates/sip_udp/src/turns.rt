@@ -10,7 +10,6 @@ use crate::bell::Bell;
 use crate::counts::{Counts, Losses};
 use crate::division::Division;
 use crate::fault::{UaFault, refused_round};
-use crate::group::Group;
 use crate::notices::{Telling, put, write_ids, write_notices};
 use crate::outlet::Outlet;
 use crate::past::Past;
@@ -22,7 +21,8 @@ use crate::user::User;
 use sip_desk::Desk;
 use sip_files::FileKind;
 use sip_journal::{LinesFault, read_round};
-use sip_round::{Config, Event, Output, PlacedOutput, Round};
+use sip_message::Spread;
+use sip_round::{Agent, Config, Event, OpenGate, Output, PlacedOutput, Round, RoundFault};
 use sip_text::Series;
 use std::alloc::{AllocError, Global};
 use std::io::Write;
@@ -56,11 +56,11 @@ enum TurnEnd {
     Full,
 }
 
-/// The agents of an endpoint between two turns.
+/// An agent between two turns.
 #[derive(Drop)]
 pub struct Turns<U, F> {
     alloc: Global,
-    group: Group,
+    agent: Agent<Spread>,
     user: U,
     // Where the turns of an eager user wait for the first event.
     bell: Option<Arc<Bell>>,
@@ -106,7 +106,7 @@ impl<U: User, F: RecordFile> Turns<U, F> {
         bell: Option<Arc<Bell>>,
         errors: &mut E,
     ) -> Result<Turns<U, F>, UaFault> {
-        let group = Group::new(alloc, config, division)?;
+        let agent = Agent::new(alloc, config, division.shards, Spread)?;
         let mut waiting = Vec::new(alloc);
         user.begin(alloc, &mut waiting)?;
         let Ok(start) = Instant::now(rt) else {
@@ -115,7 +115,7 @@ impl<U: User, F: RecordFile> Turns<U, F> {
         record.begin(alloc, &config, errors)?;
         Ok(Turns {
             alloc,
-            group,
+            agent,
             user,
             bell,
             division,
@@ -212,8 +212,8 @@ impl<U: User, F: RecordFile> Turns<U, F> {
         }
         let asked = commands_in(round.events.as_slice()).min(self.waiting.len());
         self.waiting = self.waiting.split_off(asked)?;
-        match self.group.run(rt, self.alloc, round, self.division) {
-            Ok((round, outputs)) => {
+        match self.run(rt, &round) {
+            Ok(outputs) => {
                 self.moment = round.moment;
                 self.number = self.number.saturating_add(1);
                 self.tell_user(&outputs)?;
@@ -237,13 +237,9 @@ impl<U: User, F: RecordFile> Turns<U, F> {
             kind: self.kind,
             drops: None,
         };
-        write_notices(
-            self.alloc,
-            notices,
-            telling,
-            round.events.as_slice(),
-            outputs,
-        )
+        let events = round.events.as_slice();
+        write_notices(self.alloc, notices, telling, events, outputs)?;
+        notices.flush().map_err(|_| UaFault::Output)
     }
 
     /// Takes `turns` turns, or fewer if the time is over, the user wants no more, or the listener
@@ -318,6 +314,19 @@ impl<U: User, F: RecordFile> Turns<U, F> {
         self.counts.is_some()
     }
 
+    /// Adds what the turns of another agent counted.
+    ///
+    /// # Errors
+    ///
+    /// Memory ran out.
+    pub fn add_counts<V, G>(&mut self, other: &Turns<V, G>) -> Result<(), AllocError> {
+        self.admission.add(other.admission);
+        match (&mut self.counts, &other.counts) {
+            (Some(counts), Some(more)) => counts.add_all(more),
+            _ => Ok(()),
+        }
+    }
+
     /// Writes the counts, if that was asked for, with these losses.
     pub fn tell_counts<E: Write>(&mut self, losses: Losses, errors: &mut E) {
         if let Some(counts) = &mut self.counts {
@@ -351,13 +360,13 @@ impl<U: User, F: RecordFile> Turns<U, F> {
 
     // Whether an event waits, or anything is held.
     fn holds(&self) -> bool {
-        !self.waiting.is_empty() || self.group.live() != (0, 0)
+        !self.waiting.is_empty() || self.agent.live() != (0, 0)
     }
 
     // Whether a round is run now. For an eager user, and with a journal, that is only if it may give
     // or change something.
     fn is_due(&self, now: u64) -> bool {
-        let has_cause = match self.group.next_due() {
+        let has_cause = match self.agent.next_due() {
             Some(due) if due <= now => true,
             _ => !self.waiting.is_empty(),
         };
@@ -386,6 +395,7 @@ impl<U: User, F: RecordFile> Turns<U, F> {
             write_ids(self.alloc, notices, number, events)?;
         }
         write_notices(self.alloc, notices, telling, events, &outputs)?;
+        notices.flush().map_err(|_| UaFault::Output)?;
         Ok(events.len() >= self.most_events())
     }
 
@@ -416,7 +426,7 @@ impl<U: User, F: RecordFile> Turns<U, F> {
         if !self.waiting.is_empty() {
             return Ok(());
         }
-        let left = match self.group.next_due() {
+        let left = match self.agent.next_due() {
             Some(due) => due.saturating_sub(self.moment_now(rt)?).clamp(1, PAUSE),
             None => PAUSE,
         };
@@ -429,7 +439,7 @@ impl<U: User, F: RecordFile> Turns<U, F> {
         ensures { KeepsLines desk.old desk.new }
     {
         let events = desk.collect(MOST_COLLECTED)?;
-        let mut events = self.group.admit(self.alloc, &mut self.admission, events)?;
+        let mut events = self.admission.admit(self.alloc, &self.agent, events)?;
         self.waiting.append(&mut events)?;
         Ok(())
     }
@@ -444,17 +454,28 @@ impl<U: User, F: RecordFile> Turns<U, F> {
         let moment = self.moment_now(rt)?;
         let events = self.events_of_round()?;
         let round = Round { moment, events };
-        match self.group.run(rt, self.alloc, round, self.division) {
-            Ok((round, outputs)) => {
+        match self.run(rt, &round) {
+            Ok(outputs) => {
                 self.moment = moment;
                 self.record.add(self.alloc, &round, errors)?;
                 if let Some(counts) = &mut self.counts {
-                    counts.add(self.number, &round, &outputs, self.group.live())?;
+                    counts.add(self.number, &round, &outputs, self.agent.live())?;
                 }
                 Ok((round, outputs))
             }
             Err(fault) => Err(refused_round(self.number, fault)),
         }
+    }
+
+    // Runs a round on as many threads as the division says.
+    fn run<R: Threads + Sync>(
+        &mut self,
+        rt: &R,
+        round: &Round,
+    ) -> Result<Vec<PlacedOutput>, RoundFault> {
+        let workers = self.division.workers_of(round.events.len());
+        self.agent
+            .run_round_with_places(rt, round, workers, &OpenGate)
     }
 
     fn events_of_round(&mut self) -> Result<Series<Event>, AllocError> {

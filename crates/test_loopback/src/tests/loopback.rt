@@ -116,6 +116,7 @@ pub(super) fn listened<R: Threads + Clock + Files + Sync>(
         plan,
         u64::from(turns),
         &mut notices,
+        Vec::<Vec<u8>>::new(alloc),
         &mut errors,
     );
     Run {

@@ -127,7 +127,9 @@ fn listened<R: Threads + Clock + Files + Sync>(
     endpoint.held_limit = held_limit;
     let mut plan = ListenPlan::usual();
     plan.body = AnswerBody::Inactive;
-    listen_at(rt, alloc, endpoint, plan, TURNS, &mut notices, &mut errors).ok()?;
+    let others = Vec::<Vec<u8>>::new(alloc);
+    let (notes, wrong) = (&mut notices, &mut errors);
+    listen_at(rt, alloc, endpoint, plan, TURNS, notes, others, wrong).ok()?;
     Some(Written { notices, errors })
 }
 

@@ -7,7 +7,7 @@ use sip_message::Addr;
 use sip_round::Event;
 use sip_udp::{Division, Endpoint, Flags, Inlet, InputEnd, Received, UaFault, drops_in, hear};
 use std::alloc::Global;
-use std::io::{self, PipeReader, PipeWriter};
+use std::io::{self, PipeReader, PipeWriter, Read};
 use std::net::{Ipv4Addr, SocketAddrV4, UdpSocket};
 use std::process::Abort;
 use std::rt::Files;
@@ -76,11 +76,78 @@ fn heard_after(
     };
     let buffer = vec![in alloc; 0u8; 8]?;
     let flags = Arc::new(alloc, Flags::new())?;
-    let heard = hear(alloc, inlet, buffer, line, flags.clone()?);
+    let lines = Vec::from_array(alloc, [line])?;
+    let heard = hear(alloc, inlet, buffer, lines, flags.clone()?);
     assert!(rt; heard.fault == Some(UaFault::Socket));
     assert!(rt; flags.ended.load(Ordering::SeqCst));
-    assert!(rt; heard.end.is_some());
+    assert!(rt;
+        heard
+            .ends
+            .is_some_and(|ends| matches!(ends.as_slice(), [Some(_)]))
+    );
     Ok(desk.collect(4)?.len())
+}
+
+/// An inlet with one datagram after another, and then none.
+#[derive(Drop)]
+struct Given<'a> {
+    left: &'a [&'a [u8]],
+    flags: Arc<Flags>,
+}
+
+impl<'a> Inlet for Given<'a> {
+    fn receive(&mut self, buffer: &mut [u8]) -> Received {
+        let Some((bytes, left)) = self.left.split_first() else {
+            self.flags.stop.store(true, Ordering::SeqCst);
+            return Received::Nothing;
+        };
+        self.left = left;
+        let length = bytes.len().min(buffer.len());
+        buffer[..length].copy_from_slice(&bytes[..length]);
+        Received::Datagram { from: PEER, length }
+    }
+}
+
+/// Datagrams of the agents 1, 0, 1 and 0 of two: by the sums of the bytes of their Call-IDs.
+const OF_CALLS: [&[u8]; 4] = [
+    b"OPTIONS sip:a SIP/2.0\r\nCall-ID: a\r\n\r\n",
+    b"OPTIONS sip:a SIP/2.0\r\nCall-ID: b\r\n\r\n",
+    b"SIP/2.0 200 OK\r\ni: ab\r\n\r\n",
+    b"none",
+];
+
+#[test]
+fn a_datagram_goes_to_the_agent_of_its_call(rt: HostRuntime) -> Result<(), Fail> {
+    let alloc = rt.alloc();
+    let (mut first, line) = one_line(alloc)?;
+    let (mut second, other) = one_line(alloc)?;
+    let flags = Arc::new(alloc, Flags::new())?;
+    let inlet = Given {
+        left: &OF_CALLS,
+        flags: flags.clone()?,
+    };
+    let buffer = vec![in alloc; 0u8; 64]?;
+    let lines = Vec::from_array(alloc, [line, other])?;
+    let heard = hear(alloc, inlet, buffer, lines, flags);
+    assert!(rt; heard.lost == 0 && heard.fault.is_none());
+    assert!(rt; are(&first.collect(4)?, &[OF_CALLS[1], OF_CALLS[3]]));
+    assert!(rt; are(&second.collect(4)?, &[OF_CALLS[0], OF_CALLS[2]]));
+    Ok(())
+}
+
+// Whether the events are these datagrams.
+fn are(events: &[Event], datagrams: &[&[u8]]) -> bool {
+    let mut left = datagrams;
+    for event in events {
+        let Some((first, rest)) = left.split_first() else {
+            return false;
+        };
+        if !matches!(event, Event::Datagram { bytes, .. } if bytes.as_slice() == *first) {
+            return false;
+        }
+        left = rest;
+    }
+    left.is_empty()
 }
 
 // Rows as Linux writes them.
@@ -283,6 +350,12 @@ fn a_listener_whose_socket_fails_tells_so(rt: HostRuntime) -> Result<(), Fail> {
     Ok(())
 }
 
+const THREE_AGENTS: Division = Division {
+    agents: 3,
+    shards: 4,
+    workers: 2,
+};
+
 // The notices of a listener of three agents, or of a caller with a plan, that goes on until its
 // input ends.
 fn until_input_ends<T: Threads + Clock + Files + Sync>(
@@ -301,13 +374,14 @@ fn until_input_ends<T: Threads + Clock + Files + Sync>(
     match plan {
         Some(plan) => call_from(rt, alloc, endpoint, plan, u64::MAX, &mut told, &mut errors)?,
         None => {
-            endpoint.division = Division {
-                agents: 3,
-                shards: 4,
-                workers: 2,
-            };
+            endpoint.division = THREE_AGENTS;
+            let (mut reader, writer) = io::pipe(rt).map_err(|_| UaFault::Output)?;
+            let other = writer.try_clone().map_err(|_| UaFault::Output)?;
+            let others = Vec::from_array(alloc, [writer, other])?;
             let plan = ListenPlan::usual();
-            listen_at(rt, alloc, endpoint, plan, u64::MAX, &mut told, &mut errors)?;
+            let (first, wrong) = (&mut told, &mut errors);
+            listen_at(rt, alloc, endpoint, plan, u64::MAX, first, others, wrong)?;
+            let _ = reader.read_to_end(&mut told);
         }
     }
     Ok(told)

@@ -1,12 +1,32 @@
--- `talk`: the end that is settled belongs to the line of the desk.
-use Rattle.std.proofs.Common.{IfSome, rules}
-use Rattle.sip_desk.specs.Lines.{IsEndOfLine}
-use Rattle.sip_applications.proofs.Ends.{end_of_desk}
+-- `talk`: the ends that are settled belong to the lines of the desks.
+use Rattle.std.proofs.Common.{IfOk, IfSome, subst, sym}
+use Rattle.std.specs.List.{AllZip}
+use Rattle.sip_desk.specs.Lines.{KeepsLines}
+use Rattle.sip_udp.specs.Hearing.{EndsLine}
+use Rattle.sip_applications.specs.Stations.{KeepsItsLine, desks_of}
+use Rattle.sip_applications.proofs.Lined.{some_end, zip_map}
 use Rattle.sip_applications.proofs.talk.talk.Goals as goal
 
-pub settle-requires : goal.settle-requires
-settle-requires g c =
-    let ends : IfSome c.join-heard.result.end (λ end. IsEndOfLine c.in_ok-desk.ears.line end) =
-    search rules in
-    end_of_desk c.in_ok-desk.desk c.take-end.new.desk c.in_ok-desk.ears.line c.join-heard.result.end ends
-    c.in_ok-desk.ensures c.take-end.ensures
+pub spawn_with-requires-clause-keeps : goal.spawn_with-requires-clause-keeps
+spawn_with-requires-clause-keeps g c = λ lifetimes lives heard ends.
+    subst (λ lines. IfSome heard.ends (λ ends. AllZip EndsLine lines.items ends.items))
+    (sym c.of.ensures) ends
+
+pub conclude-requires : goal.conclude-requires
+conclude-requires g c =
+    let ends = subst
+    (λ lines. IfSome c.join-heard.result.ends (λ ends. AllZip EndsLine lines.items ends.items))
+    c.of.ensures
+    (subst (λ promise. IfSome c.join-heard.result.ends
+    (λ ends. AllZip EndsLine promise.0.value.items ends.items)) c.in-Ok.ensures.ok
+    c.join-heard.ensures) in
+    let kept = subst
+    (λ ran. IfOk ran (λ ran. AllZip KeepsItsLine c.in_ok-others.others.items ran.items))
+    c.in_ok-others-2.was c.run_all-own.ensures.others in
+    some_end (λ ends. ends.items) (desks_of c.in_ok-own.own c.in_ok-others.others.items)
+    (desks_of c.run_all-own.result.0 c.in_ok-others-2.others.items) c.in_ok-others.lines.items
+    c.join-heard.result.ends c.in_ok-others.ensures (
+      c.run_all-own.ensures.own,
+      zip_map KeepsLines (λ other. other.station.desk) c.in_ok-others.others.items
+          c.in_ok-others-2.others.items kept,
+    ) ends

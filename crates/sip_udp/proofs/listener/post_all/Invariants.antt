@@ -1,7 +1,8 @@
--- The loop of `post_all`: the line is the same, and fewer than 100 receives failed in a row.
+-- The loop of `post_all`: the lines are the same, and fewer than 100 receives failed in a row.
 use Rattle.std.proofs.Common.{◌<◌}
+use Rattle.std.specs.List.{AllZip}
 use Rattle.sip_desk.specs.Lines.{SameLine}
 use Rattle.sip_udp.proofs.listener.post_all.Given as goal
 
 abbrev pub invariant-loop : goal.invariant-loop
-invariant-loop g l = SameLine l.initial.line l.line × (l.failed < 100)
+invariant-loop g l = AllZip SameLine l.initial.lines l.lines × (l.failed < 100)

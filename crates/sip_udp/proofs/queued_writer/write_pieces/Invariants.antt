@@ -5,4 +5,4 @@ use Rattle.sip_udp.proofs.queued_writer.write_pieces.Given as goal
 
 abbrev pub invariant-loop-piece : goal.invariant-loop-piece
 invariant-loop-piece g l =
-    l.text.items ≡ flat_map (λ piece. piece.items) (take l.piece-index l.pieces)
+    l.text.items ≡ flat_map (λ piece. piece.text.items) (take l.piece-index l.pieces)
