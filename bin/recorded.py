@@ -8,7 +8,8 @@ from pathlib import Path
 
 from captured import Datagram, Fault, bytes_of
 
-UA = os.environ.get("UA", str(Path(__file__).resolve().parent.parent / "crates/sip_ua/out/sip_ua"))
+BUILT = Path(__file__).resolve().parent.parent / "crates/sip_ua/out/sip_ua"
+UA = os.environ.get("SIP_UA_PROGRAM", str(BUILT))
 
 # What the agent told: its moment in s, the Call-ID, and the words behind it.
 Notice = namedtuple("Notice", "time call_id words")
