@@ -52,9 +52,9 @@ pub struct Endpoint<F> {
 }
 
 impl<F> Endpoint<F> {
-    /// An endpoint at this address, with one agent, of 4 shards, on one thread. It begins with round 0, and is
-    /// recorded as an event file.
-    pub fn new(socket: UdpSocket, local: Addr, seed: [u8; 32], record: Option<F>) -> Endpoint<F> {
+    /// An endpoint at this address, with one agent, of 4 shards, on one thread. It begins with round
+    /// 0, and is recorded as an event file.
+    pub fn new(socket: UdpSocket, local: Addr, seed: [u8; 32], file: Option<F>) -> Endpoint<F> {
         Endpoint {
             socket,
             config: Config {
@@ -63,7 +63,7 @@ impl<F> Endpoint<F> {
                 first: 0,
             },
             division: Division::USUAL,
-            record,
+            record: file,
             keeping: Keeping::MayFail,
             past: None,
             kind: FileKind::Events,

@@ -10,7 +10,7 @@ use thiserror::Error;
 /// Why a user agent stopped before its last turn.
 #[derive(Clone, Copy, Debug, PartialEq, Eq, Error)]
 pub enum UaFault {
-    /// The socket can't be used, the clock fails, or the listener's thread can't be started.
+    /// The socket can't be used, the clock fails, or a thread can't be started.
     #[error("socket failed")]
     Socket,
     /// The pipe can't be read.

@@ -56,3 +56,25 @@ fn an_output_that_is_closed(rt: HostRuntime) -> Result<(), Fail> {
     assert!(rt; error.is_some_and(|error| error.kind() == io::ErrorKind::BrokenPipe));
     Ok(())
 }
+
+// Each end's pieces come whole and in order, whatever the other one writes meanwhile.
+#[test]
+fn a_writer_with_two_ends(rt: HostRuntime) -> Result<(), Fail> {
+    let (mut reader, pipe) = io::pipe(&rt)?;
+    let started = QueuedWriter::start_with(&rt, rt.alloc(), pipe, 1);
+    let (mut writer, mut others) = started.map_err(|_| "no writer")?;
+    let mut other = others.pop().ok_or("no other end")?;
+    writer.write_all(b"a1\n")?;
+    other.write_all(b"b1\n")?;
+    writer.write_all(b"a2\n")?;
+    writer.flush()?;
+    other.write_all(b"b2\n")?;
+    other.flush()?;
+    let Written { lost, error } = writer.finish(&rt);
+    let mut told = Vec::new(rt.alloc());
+    reader.read_to_end(&mut told)?;
+    assert!(rt; lost == 0 && error.is_none());
+    let told = told.as_slice();
+    assert!(rt; told == b"a1\na2\nb1\nb2\n".as_slice() || told == b"b1\nb2\na1\na2\n".as_slice());
+    Ok(())
+}

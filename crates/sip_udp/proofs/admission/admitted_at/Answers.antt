@@ -1,5 +1,5 @@
 -- `admitted_at` lets one event after another in.
-use Rattle.std.proofs.Common.{sym, ap, subst, ◌++◌, ◌∙◌}
+use Rattle.std.proofs.Common.{sym, subst, ◌∙◌}
 use Rattle.std.proofs.lemmas.List.{nil_from_length}
 use Rattle.std.specs.Vec.Iter.{into_iter_items}
 use Rattle.sip_udp.proofs.Admitted.{LetsIn, all_let_in, one_let_in}

@@ -1,5 +1,4 @@
 -- `admitted_by` lets all events in at a low load.
-use Rattle.std.proofs.Common.{ap}
 use Rattle.sip_udp.proofs.Admitted.{none_shed}
 use Rattle.sip_udp.proofs.admission.admitted_by.Goals as goal
 

@@ -17,16 +17,16 @@ pub loop-preserved : goal.loop-preserved
 loop-preserved g c =
     let first = c.args.lines.now in
     elim c.match-receive.branch [
-      in-Datagram+in_ok-post-in-Datagram w ↦ (
+      | in-Datagram+in_ok-post-in-Datagram w ↦ (
         subst (λ lines. AllZip SameLine first lines) (sym w.lines-is)
             (zip_trans SameLine line_trans _ _ _ c.loop.invariant.0 w.post.ensures.same),
         search rules,
       )
-    | in-Nothing w ↦ (
+      | in-Nothing w ↦ (
         subst (λ lines. AllZip SameLine first lines) (sym w.lines-is) c.loop.invariant.0,
         search rules,
       )
-    | in-Failed-2 w ↦ (
+      | in-Failed-2 w ↦ (
         subst (λ lines. AllZip SameLine first lines) (sym w.lines-is) c.loop.invariant.0,
         search rules,
       )
