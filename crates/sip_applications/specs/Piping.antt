@@ -1,5 +1,5 @@
 -- What the lines of the pipe say, what is posted for them, and what is asked for.
-use Rattle.std.specs.Prelude.{◌≡◌, ℕ, ◌+◌, ◌^◌, ◌<◌, nat_le, ◌==◌, Bool, true, false, not, ◌&&◌, if◌then◌else◌, List, [], ◌∷◌, ◌++◌, length, Option, Some, None, IsTrue, IsFalse}
+use Rattle.std.specs.Prelude.{◌≡◌, ℕ, ◌+◌, ◌^◌, ◌<◌, nat_le, ◌==◌, Bool, true, false, not, ◌&&◌, List, [], ◌∷◌, ◌++◌, length, Option, Some, None, IsTrue, IsFalse}
 use Rattle.std.specs.Option.{option_map}
 use Rattle.std.specs.Io.BufRead.{take_through, drop_through}
 use Rattle.sip_round.specs.declared.round.Event.{Event}

@@ -6,7 +6,7 @@ use std::time::{Clock, Duration};
 
 /// How often a station that waits for the others looks whether all are there, and how long it waits
 /// each time, in ms.
-const LOOKS: u32 = 1_000;
+const LOOKS: u32 = 10_000;
 
 const PAUSE: u64 = 1;
 
@@ -26,7 +26,7 @@ impl Barrier {
         }
     }
 
-    /// Reaches the barrier and waits for all others, for a second at most. Says whether all are
+    /// Reaches the barrier and waits for all others, for ten seconds at most. Says whether all are
     /// there.
     pub(crate) fn reach<R: Clock>(&self, rt: &R) -> bool {
         self.reached.fetch_add(1, Ordering::SeqCst);
