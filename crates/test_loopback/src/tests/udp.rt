@@ -377,7 +377,9 @@ fn until_input_ends<T: Threads + Clock + Files + Sync>(
             endpoint.division = THREE_AGENTS;
             let (mut reader, writer) = io::pipe(rt).map_err(|_| UaFault::Output)?;
             let other = writer.try_clone().map_err(|_| UaFault::Output)?;
-            let others = Vec::from_array(alloc, [writer, other])?;
+            let Ok(others) = Vec::from_array(alloc, [writer, other]) else {
+                return Err(UaFault::NoMemory);
+            };
             let plan = ListenPlan::usual();
             let (first, wrong) = (&mut told, &mut errors);
             listen_at(rt, alloc, endpoint, plan, u64::MAX, first, others, wrong)?;
