@@ -1,46 +1,39 @@
 //! The file to which a run is written.
 
-use crate::host::Host;
-use crate::journal_file::JournalFile;
 use sip_udp::RecordFile;
+use std::fs::OpenFile;
 use std::io::{self, Read, Write};
-use std::thread::Threads;
 
-/// The file to which a run is written.
+/// The file to which a run is written. It may wait for the disk at each flush.
 #[derive(Drop)]
-pub(crate) enum DataFile<T: Host> {
-    Record(T::File),
-    Journal(JournalFile<T>),
+pub(crate) struct DataFile<F> {
+    pub file: F,
+    pub is_synced: bool,
 }
 
-impl<T: Threads + Host> Write for DataFile<T> {
+impl<F: Write + OpenFile + Drop> Write for DataFile<F> {
+    ghost contents = { λ held. F.contents held.file };
+
     fn write(&mut self, bytes: &[u8]) -> io::Result<usize> {
-        match self {
-            DataFile::Record(file) => file.write(bytes),
-            DataFile::Journal(journal) => journal.write(bytes),
-        }
+        self.file.write(bytes)
     }
 
     fn flush(&mut self) -> io::Result<()> {
-        match self {
-            DataFile::Record(file) => file.flush(),
-            DataFile::Journal(journal) => journal.flush(),
+        self.file.flush()?;
+        if self.is_synced {
+            self.file.sync_data()
+        } else {
+            Ok(())
         }
     }
 }
 
-impl<T: Threads + Host> RecordFile for DataFile<T> {
+impl<F: Read + Write + OpenFile + Drop> RecordFile for DataFile<F> {
     fn read_past(&mut self, buffer: &mut [u8]) -> io::Result<usize> {
-        match self {
-            DataFile::Record(_) => Ok(0),
-            DataFile::Journal(journal) => journal.read_past(buffer),
-        }
+        self.file.read(buffer)
     }
 
     fn cut(&mut self, len: u64) -> io::Result<()> {
-        match self {
-            DataFile::Record(_) => Err(io::Error::from(io::ErrorKind::Unsupported)),
-            DataFile::Journal(journal) => journal.cut(len),
-        }
+        self.file.set_len(len)
     }
 }

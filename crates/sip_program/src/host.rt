@@ -7,7 +7,7 @@ use std::rt::Files;
 use std::time::Clock;
 
 /// A clock, sockets, random bytes, files, and a pipe of commands.
-pub trait Host: Clock + Net + RandomSource + Files + Copy + Send + Sync + 'static {
+pub trait Host: Clock + Net + RandomSource + Files + Sync {
     type Commands: BufRead + Send + Drop + 'static;
 
     /// The pipe from which `ua agent` reads its commands.

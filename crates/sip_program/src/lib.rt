@@ -5,7 +5,6 @@ mod compacting;
 mod data_file;
 mod failure;
 mod host;
-mod journal_file;
 mod noting;
 mod program;
 mod receive_buffer;

@@ -12,7 +12,7 @@ use std::test::Fail;
 use std::thread::Threads;
 use std::time::{Clock, Duration};
 
-/// A writer that has to be flushed after writes, and whose flushes may fail.
+/// A writer that has to be flushed after writes, and whose flushes of something may fail.
 #[derive(Drop)]
 pub(super) struct Flushed {
     pub(super) bytes: Vec<u8>,
@@ -37,7 +37,7 @@ impl Write for Flushed {
     }
 
     fn flush(&mut self) -> io::Result<()> {
-        if self.fails {
+        if self.fails && self.flushed < self.bytes.len() {
             return Err(io::Error::from(io::ErrorKind::Other));
         }
         self.flushed = self.bytes.len();
