@@ -855,7 +855,13 @@ static inline uint32_t sip_ua_failed(sip_ua *agent, size_t output)
 
 /* Runs a round: handles all events since the last one, at this moment. Take all outputs of the last
  * round first. Faults: SIP_UA_OUTPUTS_LEFT, SIP_UA_BACKWARDS, SIP_UA_MOMENT_TOO_LARGE,
- * SIP_UA_USED_UP, SIP_UA_NO_MEMORY (the events still wait), SIP_UA_BROKEN. */
+ * SIP_UA_USED_UP, SIP_UA_NO_MEMORY (the events still wait), SIP_UA_BROKEN.
+ *
+ * To go on without memory: after SIP_UA_NO_MEMORY, give no more events, and call this again some
+ * times, with a pause between two; after SIP_UA_NO_MEMORY from sip_ua_next, call that again, or
+ * sip_ua_skip. If it stays, or after SIP_UA_BROKEN, free the agent (sip_ua_free), and make a new one
+ * with another seed. All ids and calls are gone then, as is what waited; the peers' requests in
+ * those calls get 481. */
 static inline uint32_t sip_ua_run(sip_ua *agent, uint64_t moment)
 {
     if (agent == NULL)
