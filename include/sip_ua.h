@@ -146,7 +146,8 @@ typedef struct sip_ua_typed_output {
     size_t index;
     sip_ua_id id;     /* of a notice: the request that it is about */
     uint32_t status;  /* of a response */
-    uint32_t rseq;    /* of a PRACK: the provisional response that it acknowledges */
+    uint32_t rseq;    /* of a PRACK: the provisional response that it acknowledges. A response was
+                       * reliable if sip_ua_header_values gives it a value of RSeq */
     /* of a refusal: the place of the command or response; its id is this place with next_round - 1,
      * next_round being that of sip_ua_stats */
     uint32_t command;
@@ -747,7 +748,9 @@ static inline uint32_t sip_ua_request(sip_ua *agent, const sip_ua_request_fields
                               sip_ua_raw_at(fields->body), fields->body.len, told);
 }
 
-/* Sends a response to a request. */
+/* Sends a response to a request. While the first reliable response waits for its PRACK, another one
+ * is refused (7), and so is a 2xx while one with a body waits: give these after SIP_UA_NOTICE_PRACK
+ * or SIP_UA_NOTICE_NO_PRACK. A response of 300 to 699 is taken at any time. */
 static inline uint32_t sip_ua_respond(sip_ua *agent, const sip_ua_respond_fields *fields,
                                       sip_ua_asked *asked)
 {
@@ -859,8 +862,8 @@ static inline uint32_t sip_ua_failed(sip_ua *agent, size_t output)
  *
  * To go on without memory: after SIP_UA_NO_MEMORY, give no more events, and call this again some
  * times, with a pause between two; after SIP_UA_NO_MEMORY from sip_ua_next, call that again, or
- * sip_ua_skip. If it stays, or after SIP_UA_BROKEN, free the agent (sip_ua_free), and make a new one
- * with another seed. All ids and calls are gone then, as is what waited; the peers' requests in
+ * sip_ua_skip. If it stays, or after SIP_UA_BROKEN, free the agent (sip_ua_free), and make a new
+ * one with another seed. All ids and calls are gone then, as is what waited; the peers' requests in
  * those calls get 481. */
 static inline uint32_t sip_ua_run(sip_ua *agent, uint64_t moment)
 {
