@@ -88,68 +88,6 @@ fn heard_after(
     Ok(desk.collect(4)?.len())
 }
 
-/// An inlet with one datagram after another, and then none.
-#[derive(Drop)]
-struct Given<'a> {
-    left: &'a [&'a [u8]],
-    flags: Arc<Flags>,
-}
-
-impl<'a> Inlet for Given<'a> {
-    fn receive(&mut self, buffer: &mut [u8]) -> Received {
-        let Some((bytes, left)) = self.left.split_first() else {
-            self.flags.stop.store(true, Ordering::SeqCst);
-            return Received::Nothing;
-        };
-        self.left = left;
-        let length = bytes.len().min(buffer.len());
-        buffer[..length].copy_from_slice(&bytes[..length]);
-        Received::Datagram { from: PEER, length }
-    }
-}
-
-/// Datagrams of the agents 1, 0, 1 and 0 of two: by the sums of the bytes of their Call-IDs.
-const OF_CALLS: [&[u8]; 4] = [
-    b"OPTIONS sip:a SIP/2.0\r\nCall-ID: a\r\n\r\n",
-    b"OPTIONS sip:a SIP/2.0\r\nCall-ID: b\r\n\r\n",
-    b"SIP/2.0 200 OK\r\ni: ab\r\n\r\n",
-    b"none",
-];
-
-#[test]
-fn a_datagram_goes_to_the_agent_of_its_call(rt: HostRuntime) -> Result<(), Fail> {
-    let alloc = rt.alloc();
-    let (mut first, line) = one_line(alloc)?;
-    let (mut second, other) = one_line(alloc)?;
-    let flags = Arc::new(alloc, Flags::new())?;
-    let inlet = Given {
-        left: &OF_CALLS,
-        flags: flags.clone()?,
-    };
-    let buffer = vec![in alloc; 0u8; 64]?;
-    let lines = Vec::from_array(alloc, [line, other])?;
-    let heard = hear(alloc, inlet, buffer, lines, flags);
-    assert!(rt; heard.lost == 0 && heard.fault.is_none());
-    assert!(rt; are(&first.collect(4)?, &[OF_CALLS[1], OF_CALLS[3]]));
-    assert!(rt; are(&second.collect(4)?, &[OF_CALLS[0], OF_CALLS[2]]));
-    Ok(())
-}
-
-// Whether the events are these datagrams.
-fn are(events: &[Event], datagrams: &[&[u8]]) -> bool {
-    let mut left = datagrams;
-    for event in events {
-        let Some((first, rest)) = left.split_first() else {
-            return false;
-        };
-        if !matches!(event, Event::Datagram { bytes, .. } if bytes.as_slice() == *first) {
-            return false;
-        }
-        left = rest;
-    }
-    left.is_empty()
-}
-
 // Rows as Linux writes them.
 const SOCKETS: &str = "   sl  local_address rem_address   st tx_queue rx_queue tr ref pointer drops
  1001: 0100007F:13C5 00000000:0000 07 00000000:00000000 00:00000000 00000000 2 0 17
