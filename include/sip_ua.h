@@ -175,7 +175,8 @@ typedef struct sip_ua_texts {
 enum {
     SIP_UA_DROP = 3,              /* the datagram of `place` was dropped */
     SIP_UA_NOTICE_REQUEST = 4,    /* a request to answer: method, local tag, remote tag, body */
-    SIP_UA_NOTICE_RESPONSE = 5,   /* status, local tag, remote tag, body */
+    SIP_UA_NOTICE_RESPONSE = 5,   /* status, local tag, remote tag, body. Tags have the spelling of
+                                     the message: compare them without case */
     SIP_UA_NOTICE_ACK = 6,        /* the ACK of a 2xx: body */
     SIP_UA_NOTICE_PRACK = 7,      /* rseq, body */
     SIP_UA_NOTICE_TIMEOUT = 8,    /* no response to INVITE, no final one to others, or no ACK of
@@ -729,7 +730,8 @@ static inline uint32_t sip_ua_plain(sip_ua *agent, const sip_ua_plain_fields *fi
                             fields->body.len, told);
 }
 
-/* Sends a request in a dialog. */
+/* Sends a request in a dialog. To offer 100rel in a re-INVITE, give the header Supported or Require
+ * with 100rel: its reliable provisional responses get their PRACKs as those of a first INVITE. */
 static inline uint32_t sip_ua_request(sip_ua *agent, const sip_ua_request_fields *fields,
                                       sip_ua_asked *asked)
 {
