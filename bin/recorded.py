@@ -9,7 +9,8 @@ from pathlib import Path
 from captured import Datagram, Fault, bytes_of
 
 BUILT = Path(__file__).resolve().parent.parent / "crates/sip_ua/out/sip_ua"
-UA = os.environ.get("SIP_UA_PROGRAM", str(BUILT))
+# The program doesn't see the variable: it may be a script that runs bin/ua.
+UA = os.environ.pop("SIP_UA_PROGRAM", str(BUILT))
 
 # What the agent told: its moment in s, the Call-ID, and the words behind it.
 Notice = namedtuple("Notice", "time call_id words")
