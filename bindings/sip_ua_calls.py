@@ -297,7 +297,8 @@ class Call:
 
     async def answered(self) -> Message:
         """Waits until the call is up. Returns the 2xx of an outgoing call, the ACK of an incoming
-        one. Raises CallFailed if it was refused, cancelled, or not answered in time."""
+        one. Raises CallFailed if it was refused, cancelled, or not answered in time. A timeout of
+        `asyncio.wait_for` leaves the call as it is: `hang_up` ends it."""
         await asyncio.shield(self._is_settled)
         if self._answer is None:
             response = self._end.result().response
@@ -347,7 +348,9 @@ class Call:
 
     def acknowledge(self, answer: bytes = b"", headers: Headers = ()) -> None:
         """Sends the ACK of a 2xx whose INVITE had no body: the 2xx has the offer, and the ACK the
-        answer. Other ACKs go out by themselves; then, and after the end, this does nothing."""
+        answer. Other ACKs go out by themselves; then, and after the end, this does nothing. To join
+        two calls, make the first without an offer, the second with the first's, and give the
+        second's answer here, within 32 s of the first's 2xx (RFC 3725, section 4.1)."""
         if self._owes_ack and self._tags is not None:
             self._owes_ack = False
             self._agent.ask(Ack(self.call_id, *self._tags, answer, headers))
@@ -356,7 +359,8 @@ class Call:
         """Ends the call: by BYE if it is up, else by CANCEL or 603. If it is answered anyway, or
         its ACK hasn't come yet, its BYE follows then. If the ACK of its 2xx is still to be given by
         `acknowledge`, one without a body goes out before the BYE. The body and the headers are the
-        BYE's. A call that has ended, or is about to, stays as it is."""
+        BYE's. A call that has ended, or is about to, stays as it is. `ended` comes as the BYE
+        goes out; without one at most some 32 s later, also if the peer is silent."""
         if self._is_left or self._end.done():
             return
         self._is_left = True
@@ -660,7 +664,9 @@ def uri_of(value: str) -> str:
 
 
 async def address_of(uri: str) -> Address:
-    """The address of a URI's host, by DNS if it is a name, and its port, 5060 without one."""
+    """The address of a URI's host, by DNS if it is a name, and its port, 5060 without one. Raises
+    ValueError if the URI isn't a `sip:` URI with a host that is a name or an IPv4 address, and
+    OSError if the name isn't found."""
     found = _HOST.match(uri)
     if found is None:
         raise ValueError(f"no host in {uri!r}")
@@ -683,8 +689,8 @@ class UserAgent:
 
     `uri` is the user's own, which From says. `proxy` is where all requests go, otherwise to the
     address in their URI. The username and the password answer challenges. `on_request` is called
-    with each request outside of calls; without it, they are refused. More calls than `most_calls`
-    at one time get 503."""
+    with each request outside of calls; without it, they are refused. A peer's call gets 503 while
+    there are `most_calls`, one's own among them; `call` has no limit."""
 
     endpoint: Endpoint
     uri: str
@@ -728,7 +734,8 @@ class UserAgent:
     ) -> OutgoingCall:
         """Starts a call: sends an INVITE to the address, else to the proxy or the address in the
         URI. Without an offer, the 2xx has one, and `acknowledge` answers it; then leave out
-        `supports_100rel`."""
+        `supports_100rel`. Raises as `address_of`, and sip_ua.Error if a field is bad: then no call
+        has begun."""
         to = address or self.proxy or await address_of(uri)
         uris = (uri, from_uri or self.uri, uri)
         invite = Invite(token_hex(8), to, *uris, offer, tuple(headers), supports_100rel)
@@ -751,7 +758,8 @@ class UserAgent:
         to_uri: Optional[str] = None,
         authenticator: Optional[Authenticator] = None,
     ) -> FinalResponse:
-        """Sends a request outside of calls, such as OPTIONS, and returns its final response."""
+        """Sends a request outside of calls, such as OPTIONS, and returns its final response. Raises
+        as `call`."""
         to = address or self.proxy or await address_of(uri)
         uris = (uri, from_uri or self.uri, to_uri or uri)
 

@@ -94,7 +94,8 @@ class Registration:
         return self
 
     async def __aexit__(self, *_: object) -> None:
-        """Unregisters, but doesn't wait long for the registrar."""
+        """Unregisters, unless that was done, and waits at most 4 s for the registrar. Calls go on:
+        to end them before, hang them up and await `ended`."""
         if self._keeper is None:
             return
         try:

@@ -15,7 +15,8 @@ use std::io::Write;
 use std::thread::{self, Threads};
 use std::time::Clock;
 
-/// What another agent needs: an endpoint at the same socket, a user, and where it tells its notices.
+/// What another agent needs: an endpoint at the same socket, a user, and where it tells its
+/// notices.
 #[derive(Drop)]
 pub(crate) struct OtherAgent<U, O> {
     pub(crate) endpoint: Endpoint<Vec<u8>>,

@@ -60,8 +60,8 @@ impl<U: User, F: RecordFile> Station<U, F> {
         Ok((station, line))
     }
 
-    /// Takes its turns as soon as all stations are there. If they end by a fault, all others are told
-    /// to stop.
+    /// Takes its turns as soon as all stations are there. If they end by a fault, all others are
+    /// told to stop.
     pub(crate) fn run<R: Threads + Clock + Sync, W: Write, E: Write>(
         mut self,
         rt: &R,

@@ -73,9 +73,9 @@ pub fn listen<R: Threads + Clock + Files + Sync, W: Write>(
 /// endpoint has ended, calls that aren't answered get 480, and those that are up get a BYE; the
 /// turns end a second later. If recording is given up, `errors` says so.
 ///
-/// The endpoint may have several agents, each on a thread of its own: a call is that of the agent of
-/// its Call-ID. The first tells its notices to `notices`, and each other to one of `others`: there
-/// are no more agents than that.
+/// The endpoint may have several agents, each on a thread of its own: a call is that of the agent
+/// of its Call-ID. The first tells its notices to `notices`, and each other to one of `others`:
+/// there are no more agents than that.
 ///
 /// # Errors
 ///

@@ -1,7 +1,7 @@
 //! What `ua compact` does.
 
 use crate::failure::Failure;
-use crate::host::Host;
+use crate::host::{Host, Journals};
 use crate::talk_fault::TalkFault;
 use crate::talking::{bad_file, bad_word};
 use crate::words::CompactWords;
@@ -24,7 +24,7 @@ pub(crate) fn compact_by<'a, T: Threads + Host, E: Write>(
     errors: &mut E,
 ) -> Result<(), Failure<'a>> {
     let mut journal = opened(rt, words)?;
-    if !rt.has_alone(&journal) {
+    if !rt.has_alone(&journal, words.journal) {
         let wanted = "another process has it";
         return Err(bad_word("--journal", words.journal, wanted));
     }
@@ -55,9 +55,11 @@ pub(crate) fn compact_by<'a, T: Threads + Host, E: Write>(
     }
 }
 
-fn opened<'a, T: Files>(rt: &T, words: CompactWords<'a>) -> Result<T::File, Failure<'a>> {
+fn opened<'a, T: Journals>(rt: &T, words: CompactWords<'a>) -> Result<File, Failure<'a>> {
     let path = words.journal;
-    match File::open(rt, path) {
+    let mut options = OpenOptions::new();
+    options.read(true);
+    match rt.open_journal(&options, path) {
         Ok(file) => Ok(file),
         Err(error) => Err(bad_file(UaFault::Journal, "--journal", path, error)),
     }

@@ -1,39 +1,45 @@
 //! The file to which a run is written.
 
+use crate::host::Journals;
+use crate::journal_file::JournalFile;
 use sip_udp::RecordFile;
-use std::fs::OpenFile;
 use std::io::{self, Read, Write};
 
-/// The file to which a run is written. It may wait for the disk at each flush.
+/// The file to which a run is written.
 #[derive(Drop)]
-pub(crate) struct DataFile<F> {
-    pub file: F,
-    pub is_synced: bool,
+pub(crate) enum DataFile<T: Journals> {
+    Record(T::File),
+    Journal(JournalFile<T>),
 }
 
-impl<F: Write + OpenFile + Drop> Write for DataFile<F> {
-    ghost contents = { λ held. F.contents held.file };
-
+impl<T: Journals + Drop> Write for DataFile<T> {
     fn write(&mut self, bytes: &[u8]) -> io::Result<usize> {
-        self.file.write(bytes)
+        match self {
+            DataFile::Record(file) => file.write(bytes),
+            DataFile::Journal(journal) => journal.write(bytes),
+        }
     }
 
     fn flush(&mut self) -> io::Result<()> {
-        self.file.flush()?;
-        if self.is_synced {
-            self.file.sync_data()
-        } else {
-            Ok(())
+        match self {
+            DataFile::Record(file) => file.flush(),
+            DataFile::Journal(journal) => journal.flush(),
         }
     }
 }
 
-impl<F: Read + Write + OpenFile + Drop> RecordFile for DataFile<F> {
+impl<T: Journals + Drop> RecordFile for DataFile<T> {
     fn read_past(&mut self, buffer: &mut [u8]) -> io::Result<usize> {
-        self.file.read(buffer)
+        match self {
+            DataFile::Record(_) => Ok(0),
+            DataFile::Journal(journal) => journal.read_past(buffer),
+        }
     }
 
     fn cut(&mut self, len: u64) -> io::Result<()> {
-        self.file.set_len(len)
+        match self {
+            DataFile::Record(_) => Err(io::Error::from(io::ErrorKind::Unsupported)),
+            DataFile::Journal(journal) => journal.cut(len),
+        }
     }
 }

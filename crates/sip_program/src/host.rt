@@ -1,13 +1,43 @@
 //! The system that the program runs on.
 
-use std::io::{BufRead, Input, IsTerminal};
+use std::fs::{self, File, OpenFile, OpenOptions};
+use std::io::{self, BufRead, Input, IsTerminal};
 use std::net::Net;
+use std::os::unix::fs::MetadataExt;
 use std::random::RandomSource;
 use std::rt::Files;
 use std::time::Clock;
 
+/// Files, also those of journals.
+pub trait Journals: Files + Copy {
+    /// Opens the file of a journal.
+    ///
+    /// # Errors
+    ///
+    /// The system's own error.
+    fn open_journal(&self, options: &OpenOptions, path: &str) -> io::Result<File>;
+
+    /// Whether this process has the file for itself from now on, and the file is the one with this
+    /// path.
+    fn has_alone(&self, file: &File, path: &str) -> bool {
+        if file.try_lock().is_err() {
+            return false;
+        }
+        match (file.metadata(), fs::metadata(self, path)) {
+            (Ok(own), Ok(named)) => own.dev() == named.dev() && own.ino() == named.ino(),
+            _ => false,
+        }
+    }
+}
+
+impl Journals for HostRuntime {
+    fn open_journal(&self, options: &OpenOptions, path: &str) -> io::Result<File> {
+        options.open(self, path)
+    }
+}
+
 /// A clock, sockets, random bytes, files, and a pipe of commands.
-pub trait Host: Clock + Net + RandomSource + Files + Sync {
+pub trait Host: Clock + Net + RandomSource + Journals + Send + Sync + 'static {
     type Commands: BufRead + Send + Drop + 'static;
 
     /// The pipe from which `ua agent` reads its commands.
@@ -15,9 +45,6 @@ pub trait Host: Clock + Net + RandomSource + Files + Sync {
 
     /// Whether the pipe is a terminal.
     fn is_on_terminal(&self) -> bool;
-
-    /// Whether this process has the file for itself from now on: no other one has it.
-    fn has_alone(&self, file: &Self::File) -> bool;
 }
 
 /// The pipe is standard input.
@@ -30,9 +57,5 @@ impl Host for HostRuntime {
 
     fn is_on_terminal(&self) -> bool {
         self.stdin().is_terminal()
-    }
-
-    fn has_alone(&self, file: &Self::File) -> bool {
-        file.try_lock().is_ok()
     }
 }

@@ -41,8 +41,8 @@ use std::thread::Threads;
 /// and writes round by round. `ua listen`, `ua call` and `ua
 /// agent` write to `notices`, on a thread of their own. `ua agent` reads its commands from the pipe
 /// of `rt`. If help or the version is asked for, it is written to `output`. A fault is written to
-/// `errors` after `ua: `, and what is known about its cause on a line after it. A fault of the words
-/// is written as `clap` says it. A failed write to `errors` is ignored.
+/// `errors` after `ua: `, and what is known about its cause on a line after it. A fault of the
+/// words is written as `clap` says it. A failed write to `errors` is ignored.
 pub fn ua<
     T: Threads + Host,
     S: AsStr,

@@ -9,6 +9,7 @@ use crate::compacting::compact_by;
 use crate::data_file::DataFile;
 use crate::failure::{Cause, Failure};
 use crate::host::Host;
+use crate::journal_file::JournalFile;
 use crate::receive_buffer::ask_for_room;
 use crate::talk_fault::TalkFault;
 use crate::words::{
@@ -18,13 +19,12 @@ use crate::words::{
 use clap::ArgMatches;
 use sip_applications::{AnswerBody, CallPlan, ListenPlan, agent, call_from, listen_at};
 use sip_message::{Addr, CallId, Uri};
-use sip_round::Config;
 use sip_text::Text;
 use sip_udp::{
     Division, Endpoint, InputEnd, Keeping, Past, QueuedEnd, QueuedWriter, UaFault, Written,
 };
 use std::alloc::{AllocError, Global};
-use std::fs::{self, File, OpenOptions};
+use std::fs::{self, File};
 use std::io::{self, Write};
 use std::net::{Ipv4Addr, Net, SocketAddrV4, UdpSocket};
 use std::random::RandomSource;
@@ -32,8 +32,8 @@ use std::rt::Files;
 use std::sync::Arc;
 use std::thread::Threads;
 
-/// Listens, calls, does what a pipe says, or compacts a journal, as the words ask for. Notices go to
-/// `stream`.
+/// Listens, calls, does what a pipe says, or compacts a journal, as the words ask for. Notices go
+/// to `stream`.
 pub(crate) fn talk_by<'a, T: Threads + Host, N: Write + Send + Drop + 'static, E: Write>(
     rt: &T,
     alloc: Global,
@@ -100,23 +100,30 @@ fn call_by<'a, T: Threads + Host, N: Write + Send + Drop + 'static, E: Write>(
     errors: &mut E,
 ) -> Result<(), Failure<'a>> {
     let plan = plan_of(rt, alloc, words)?;
-    let endpoint = endpoint_of_turns(rt, alloc, words.own, words.length, words.drops)?;
-    check_call(endpoint.config, words.own)?;
+    let mut endpoint = endpoint_of_turns(rt, alloc, words.own, words.length, words.drops)?;
+    keep_call(&mut endpoint, words.own)?;
     let turns = words.length.turns();
     let mut notices = notice_writer(rt, alloc, stream)?;
     let end = call_from(rt, alloc, endpoint, plan, turns, &mut notices, errors);
     ended(end, notices.finish(rt), errors)
 }
 
-// The call begins in the first round of its journal. A shorter journal without it would make the
-// call again.
-fn check_call<'a>(config: Config, own: OwnWords<'a>) -> Result<(), Failure<'a>> {
+// The call begins in the first round of its journal. Without that round it would be made again, so
+// the journal isn't made shorter, and one that lacks the round is refused.
+fn keep_call<'a, T: Threads + Host>(
+    endpoint: &mut Endpoint<DataFile<T>>,
+    own: OwnWords<'a>,
+) -> Result<(), Failure<'a>> {
     match own.journal {
-        Some(words) if config.first > 0 => {
-            Err(bad_word("--journal", words.path, "its call is over"))
+        Some(words) if endpoint.config.first > 0 => {
+            return Err(bad_word("--journal", words.path, "its call is over"));
         }
-        _ => Ok(()),
+        _ => {}
     }
+    if let Some(DataFile::Journal(journal)) = &mut endpoint.record {
+        journal.keep_whole();
+    }
+    Ok(())
 }
 
 // What the words of `ua listen` ask for.
@@ -353,7 +360,7 @@ fn endpoint_of_turns<'a, T: Threads + Host>(
     own: OwnWords<'a>,
     length: LengthWords,
     tells_drops: bool,
-) -> Result<Endpoint<DataFile<T::File>>, Failure<'a>> {
+) -> Result<Endpoint<DataFile<T>>, Failure<'a>> {
     let mut endpoint = endpoint_of(rt, alloc, own)?;
     endpoint.tells_drops = tells_drops;
     endpoint.seconds = length.seconds;
@@ -362,11 +369,11 @@ fn endpoint_of_turns<'a, T: Threads + Host>(
 }
 
 // An endpoint at this address; where the port is 0, at the one that the socket got.
-fn endpoint_of<'a, T: Host>(
+fn endpoint_of<'a, T: Threads + Host>(
     rt: &T,
     alloc: Global,
     own: OwnWords<'a>,
-) -> Result<Endpoint<DataFile<T::File>>, Failure<'a>> {
+) -> Result<Endpoint<DataFile<T>>, Failure<'a>> {
     let local = address_of(alloc, "--local", own.local)?;
     let seed = random_seed(rt)?;
     let (socket, local) = match bound(rt, local) {
@@ -387,14 +394,14 @@ fn endpoint_of<'a, T: Host>(
 }
 
 // The endpoint with its journal. What the journal's head says is its configuration.
-fn with_journal<'a, T: Host>(
+fn with_journal<'a, T: Threads + Host>(
     rt: &T,
     alloc: Global,
-    mut endpoint: Endpoint<DataFile<T::File>>,
+    mut endpoint: Endpoint<DataFile<T>>,
     words: JournalWords<'a>,
     local: &'a str,
-) -> Result<Endpoint<DataFile<T::File>>, Failure<'a>> {
-    let mut file = journal_at(rt, words)?;
+) -> Result<Endpoint<DataFile<T>>, Failure<'a>> {
+    let mut file = journal_at(rt, alloc, words)?;
     let mut past = Past::new(alloc);
     match past.head(&mut file) {
         Ok(Some(config)) if config.local == endpoint.config.local => endpoint.config = config,
@@ -409,7 +416,7 @@ fn with_journal<'a, T: Host>(
             return Err(Failure::new(TalkFault::Ua(fault), cause));
         }
     }
-    endpoint.record = Some(file);
+    endpoint.record = Some(DataFile::Journal(file));
     endpoint.past = Some(past);
     if !words.may_fail {
         endpoint.keeping = Keeping::Needed;
@@ -418,35 +425,29 @@ fn with_journal<'a, T: Host>(
 }
 
 // The file of a journal, which no other process has.
-fn journal_at<'a, T: Host>(
+fn journal_at<'a, T: Threads + Host>(
     rt: &T,
+    alloc: Global,
     words: JournalWords<'a>,
-) -> Result<DataFile<T::File>, Failure<'a>> {
-    let JournalWords {
-        path,
-        is_synced,
-        ..
-    } = words;
-    let mut options = OpenOptions::new();
-    options.read(true).append(true).create(true);
-    match options.open(rt, path) {
-        Ok(file) if rt.has_alone(&file) => Ok(DataFile { file, is_synced }),
-        Ok(_) => Err(bad_word("--journal", path, "another process has it")),
+) -> Result<JournalFile<T>, Failure<'a>> {
+    let path = words.path;
+    match JournalFile::open(rt, alloc, path, words.is_synced) {
+        Ok(Some(journal)) => Ok(journal),
+        Ok(None) => Err(bad_word("--journal", path, "another process has it")),
         Err(error) => Err(bad_file(UaFault::Journal, "--journal", path, error)),
     }
 }
 
 // A new file for the record, if one is asked for.
-fn record_at<'a, T: Files>(
+fn record_at<'a, T: Host>(
     rt: &T,
     path: Option<&'a str>,
-) -> Result<Option<DataFile<T::File>>, Failure<'a>> {
+) -> Result<Option<DataFile<T>>, Failure<'a>> {
     let Some(path) = path else {
         return Ok(None);
     };
-    let is_synced = false;
     match File::create(rt, path) {
-        Ok(file) => Ok(Some(DataFile { file, is_synced })),
+        Ok(file) => Ok(Some(DataFile::Record(file))),
         Err(error) => Err(bad_file(UaFault::Output, "--record", path, error)),
     }
 }

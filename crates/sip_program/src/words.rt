@@ -795,7 +795,8 @@ fn journal_argument<'a>(alloc: Global) -> Result<Arg<'a>, AllocError> {
         .help(
             "Write each round to FILE, a session file, before anything of it is sent. If FILE has \
             rounds already, first run them again, silently, and go on from there: a process that \
-            died is continued by the same command",
+            died is continued by the same command. `listen` and `agent` make a FILE of 16 MiB or \
+            more shorter while they run",
         );
     argument.conflicts_with("record")
 }

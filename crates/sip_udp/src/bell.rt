@@ -44,7 +44,8 @@ impl Bell {
         match heard {
             Ok(_) => Ok(()),
             Err(error) => match error.kind() {
-                ErrorKind::WouldBlock | ErrorKind::TimedOut => Ok(()),
+                // It is interrupted where the process was stopped and goes on.
+                ErrorKind::WouldBlock | ErrorKind::TimedOut | ErrorKind::Interrupted => Ok(()),
                 _ => Err(error),
             },
         }

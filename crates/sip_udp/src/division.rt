@@ -4,16 +4,16 @@ ghost use Rattle.std.specs.Prelude.{◌<◌, ◌≤◌};
 
 use sip_round::MAX_EVENTS_OF_ROUND;
 
-/// The fewest events of a round that several threads share. In smaller rounds, to start threads four
-/// times takes longer than what they save.
+/// The fewest events of a round that several threads share. In smaller rounds, to start threads
+/// four times takes longer than what they save.
 const SHARED: usize = 2_000;
 
 /// The most events of a round that one agent runs on one thread: its time for a transaction is the
 /// least with 10 to 100 events a round. Several threads need large rounds.
 const BEST: usize = 128;
 
-/// How many agents share the calls, how many shards the transactions and calls of each are cut into,
-/// and how many threads work on a round of one agent.
+/// How many agents share the calls, how many shards the transactions and calls of each are cut
+/// into, and how many threads work on a round of one agent.
 #[derive(Clone, Copy)]
 pub struct Division {
     pub agents: usize,

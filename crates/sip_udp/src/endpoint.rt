@@ -52,8 +52,8 @@ pub struct Endpoint<F> {
 }
 
 impl<F> Endpoint<F> {
-    /// An endpoint at this address, with one agent, of 4 shards, on one thread. It begins with round
-    /// 0, and is recorded as an event file.
+    /// An endpoint at this address, with one agent, of 4 shards, on one thread. It begins with
+    /// round 0, and is recorded as an event file.
     pub fn new(socket: UdpSocket, local: Addr, seed: [u8; 32], file: Option<F>) -> Endpoint<F> {
         Endpoint {
             socket,
@@ -77,8 +77,8 @@ impl<F> Endpoint<F> {
         }
     }
     /// How many agents it has, each at its own thread: as many as its division says. There is one
-    /// alone if the run is recorded, or if the number of its first round leaves no room for those of
-    /// others.
+    /// alone if the run is recorded, or if the number of its first round leaves no room for those
+    /// of others.
     pub fn agents(&self) -> usize
         ensures some { 0 < result }
         ensures most { result ≤ 16 }
@@ -105,8 +105,8 @@ impl<F> Endpoint<F> {
         self.held_limit = self.held_limit.map(|limit| share(limit, agents));
     }
 
-    /// The endpoint of another agent, the one with this number, at the same socket. Nothing of it is
-    /// recorded.
+    /// The endpoint of another agent, the one with this number, at the same socket. Nothing of it
+    /// is recorded.
     ///
     /// # Errors
     ///

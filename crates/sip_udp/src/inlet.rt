@@ -40,7 +40,10 @@ impl Inlet for UdpSocket {
             },
             Ok((_, SocketAddr::V6(_))) => Received::Nothing,
             Err(error) => match error.kind() {
-                ErrorKind::WouldBlock | ErrorKind::TimedOut => Received::Nothing,
+                // It is interrupted where the process was stopped and goes on.
+                ErrorKind::WouldBlock | ErrorKind::TimedOut | ErrorKind::Interrupted => {
+                    Received::Nothing
+                }
                 _ => Received::Failed,
             },
         }

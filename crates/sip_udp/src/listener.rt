@@ -190,8 +190,8 @@ fn post(
 
 // Which of so many agents a datagram is for. With one agent no Call-ID is looked for.
 fn agent_of(alloc: Global, agents: usize, event: &Event) -> Result<usize, AllocError>
-    ensures { IfOk result (λ agent. (from : Addr) (bytes : List ℕ) → event.now ≡ ADatagram from bytes
-        → agent ≡ agent_of_datagram agents bytes) }
+    ensures { IfOk result (λ agent. (from : Addr) (bytes : List ℕ)
+        → event.now ≡ ADatagram from bytes → agent ≡ agent_of_datagram agents bytes) }
 {
     if agents < 2 || agents > MAX_AGENTS {
         return Ok(FIRST);

@@ -28,9 +28,9 @@ pub(crate) struct Telling {
 }
 
 /// Writes the line of each notice as it stands in an output file. If drops are told, it writes a
-/// line for each, except those of keep-alives. In a session, the header lines of the datagram that a
-/// notice is about stand before the notice's line. What is told of an output is written at once, and
-/// nothing is flushed.
+/// line for each, except those of keep-alives. In a session, the header lines of the datagram that
+/// a notice is about stand before the notice's line. What is told of an output is written at once,
+/// and nothing is flushed.
 pub(crate) fn write_notices<W: Write>(
     alloc: Global,
     writer: &mut W,

@@ -61,7 +61,8 @@ impl Past {
         }
     }
 
-    // Whether these lines are the head as it is written, which has all that a session may leave out.
+    // Whether these lines are the head as it is written, which has all that a session may leave
+    // out.
     fn is_head(&self, config: &Config, lines: &[u8]) -> Result<bool, AllocError> {
         let head = write_file_head(self.alloc, FileKind::Session, config)?;
         Ok(head.as_slice() == lines)

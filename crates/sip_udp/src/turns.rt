@@ -134,8 +134,8 @@ impl<U: User, F: RecordFile> Turns<U, F> {
         })
     }
 
-    /// Runs the rounds of the journal again, without sending what they give. The notices of the last
-    /// one are told again, after a line that says so. What isn't whole at the end is cut off.
+    /// Runs the rounds of the journal again, without sending what they give. The notices of the
+    /// last one are told again, after a line that says so. What isn't whole at the end is cut off.
     ///
     /// # Errors
     ///
@@ -363,8 +363,8 @@ impl<U: User, F: RecordFile> Turns<U, F> {
         !self.waiting.is_empty() || self.agent.live() != (0, 0)
     }
 
-    // Whether a round is run now. For an eager user, and with a journal, that is only if it may give
-    // or change something.
+    // Whether a round is run now. For an eager user, and with a journal, that is only if it may
+    // give or change something.
     fn is_due(&self, now: u64) -> bool {
         let has_cause = match self.agent.next_due() {
             Some(due) if due <= now => true,

@@ -133,7 +133,8 @@ fn listened<R: Threads + Clock + Files + Sync>(
     Some(Written { notices, errors })
 }
 
-// One request is held. Then its retransmission is answered, a new one isn't, and one in a dialog is.
+// One request is held. Then its retransmission is answered, a new one isn't, and one in a dialog
+// is.
 fn asks_on(rt: &impl Abort, alloc: Global, peer: Peer) -> Result<(), Fail> {
     peer.ask(alloc, "c1", "", b"")?;
     assert!(rt; peer.is_answered(alloc, "SIP/2.0 200 ", "c1")?);
