@@ -12,6 +12,7 @@ mod opening;
 mod own_headers;
 mod request;
 mod route;
+mod same;
 mod uri_text;
 
 pub use branch::Branch;

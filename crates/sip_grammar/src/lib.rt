@@ -18,6 +18,7 @@ mod party_display;
 mod party_parameters;
 mod reason;
 mod request_uri;
+mod same;
 mod status_code;
 mod token;
 mod uri;

@@ -4,3 +4,4 @@ pub mod Stamps
 pub mod Sums
 pub mod Ips
 pub mod Wildcards
+pub mod SameKeys

@@ -18,6 +18,7 @@ mod name_addr;
 mod party;
 mod rack;
 mod response;
+mod same;
 mod sent_by;
 mod shared_key;
 mod source;

@@ -4,4 +4,3 @@ pub mod Sounds
 pub mod Repeats
 pub mod Ledgers
 pub mod Dues
-pub mod SameLists

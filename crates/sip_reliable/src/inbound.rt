@@ -4,6 +4,7 @@ ghost use Rattle.std.specs.Prelude.{◌≡◌, ◌↔◌, ℕ, IsTrue, List, [],
 ghost use Rattle.sip_reliable.specs.Inbound.{in_order, latest, offered, taken, latest_after, IsConsecutive};
 
 use crate::Offer;
+use sip_same::SameValue;
 use std::marker::Model;
 
 /// The reliable provisional responses of one early dialog that a caller takes, by their RSeq
@@ -48,17 +49,6 @@ impl Inbound {
         self.step(rseq)
     }
 
-    /// Whether another one took the same latest number.
-    pub fn is_same(&self, other: &Inbound) -> bool
-        ensures { IsTrue result ↔ (self.now ≡ other.now) }
-    {
-        match (self.latest, other.latest) {
-            (None, None) => true,
-            (Some(latest), Some(other)) => latest == other,
-            _ => false,
-        }
-    }
-
     fn step(&mut self, rseq: u32) -> Offer
         ensures answer { result ≡ offered self.old rseq }
         ensures after { self.new ≡ latest_after result self.old rseq }
@@ -87,3 +77,9 @@ pub fn taken_in_order()
     ensures consecutive { (came : List ℕ) → IsConsecutive (in_order came) }
     ensures once { (came : List ℕ) → AllPairs (λ x y. x ≢ y) (in_order came) }
 {}
+
+impl SameValue for Inbound {
+    fn is_same(&self, other: &Inbound) -> bool {
+        self.latest.is_same(&other.latest)
+    }
+}

@@ -11,11 +11,12 @@ ghost use Rattle.sip_reliable.specs.Sound.{IsSound};
 
 use crate::provisional::{MOST_WAITING, Provisional};
 use crate::waiting::{
-    any_given_up, any_late, any_numbered, any_repeated, any_with_body, are_same, due_numbers,
-    give_up, next_due, repeat,
+    any_given_up, any_late, any_numbered, any_repeated, any_with_body, due_numbers, give_up, next_due,
+    repeat,
 };
 use crate::{NoMatch, SendFault, Tick};
 use arrayvec::ArrayVec;
+use sip_same::{SameValue, are_same};
 use std::marker::Model;
 
 /// The reliable provisional responses that a callee sends for one INVITE (RFC 3262 section 3).
@@ -71,17 +72,6 @@ impl Outbound {
             closed: false,
             waiting: ArrayVec::new(),
         }
-    }
-
-    /// Whether another one sent the same, and the same ones of it wait at the same moments.
-    pub fn is_same(&self, other: &Outbound) -> bool
-        ensures { IsTrue result ↔ (self.now ≡ other.now) }
-    {
-        self.first == other.first
-            && self.next == other.next
-            && self.supported == other.supported
-            && self.closed == other.closed
-            && are_same(self.waiting.as_slice(), other.waiting.as_slice())
     }
 
     /// Takes the next number for a response that is sent at `now`. `now` is at most 2^62.
@@ -264,5 +254,15 @@ impl Outbound {
         ensures { result ≡ list_any (λ p. p.has_body) self.now.waiting }
     {
         any_with_body(self.waiting.as_slice())
+    }
+}
+
+impl SameValue for Outbound {
+    fn is_same(&self, other: &Outbound) -> bool {
+        self.first == other.first
+            && self.next == other.next
+            && self.supported == other.supported
+            && self.closed == other.closed
+            && are_same(self.waiting.as_slice(), other.waiting.as_slice())
     }
 }

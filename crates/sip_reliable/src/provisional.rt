@@ -3,6 +3,7 @@
 ghost use Rattle.std.specs.Prelude.{◌≡◌, ◌↔◌, IsTrue, ◌≤◌, ◌+◌, ◌^◌, [], None};
 ghost use Rattle.sip_reliable.specs.Provisional as spec;
 
+use sip_same::SameValue;
 use sip_timers::{LIFETIME, T1};
 use std::default::Default;
 use std::marker::Model;
@@ -111,16 +112,6 @@ impl Provisional {
         }
     }
 
-    /// Whether another one has the same number, body and moments.
-    pub(crate) fn is_same(&self, other: &Provisional) -> bool
-        ensures { IsTrue result ↔ (self.now ≡ other.now) }
-    {
-        self.number == other.number
-            && self.has_body == other.has_body
-            && self.sent == other.sent
-            && are_same(self.retransmission, other.retransmission)
-    }
-
     /// From now on it isn't sent again.
     pub(crate) fn give_up(&mut self)
         ensures { self.new ≡ spec.given_up self.old }
@@ -159,12 +150,17 @@ impl Provisional {
     }
 }
 
-fn are_same(one: Option<Retransmission>, other: Option<Retransmission>) -> bool
-    ensures { IsTrue result ↔ (one ≡ other) }
-{
-    match (one, other) {
-        (None, None) => true,
-        (Some(one), Some(other)) => one.due == other.due && one.repeats == other.repeats,
-        _ => false,
+impl SameValue for Retransmission {
+    fn is_same(&self, other: &Retransmission) -> bool {
+        self.due == other.due && self.repeats == other.repeats
+    }
+}
+
+impl SameValue for Provisional {
+    fn is_same(&self, other: &Provisional) -> bool {
+        self.number == other.number
+            && self.has_body == other.has_body
+            && self.sent == other.sent
+            && self.retransmission.is_same(&other.retransmission)
     }
 }

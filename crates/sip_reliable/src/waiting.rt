@@ -86,19 +86,3 @@ pub(crate) fn next_due(waiting: &[Provisional]) -> Option<u64>
         .iter()
         .fold(None, |due, one| earlier(due, one.next_due()))
 }
-
-/// Whether the same ones wait.
-#[tactic(auto, using(crate::proofs::SameLists::same_at, crate::proofs::SameLists::one_more_same))]
-pub(crate) fn are_same(waiting: &[Provisional], others: &[Provisional]) -> bool
-    ensures { IsTrue result ↔ (waiting.now ≡ others.now) }
-{
-    if waiting.len() != others.len() {
-        return false;
-    }
-    for (place, one) in waiting.iter().enumerate() {
-        if !one.is_same(&others[place]) {
-            return false;
-        }
-    }
-    true
-}

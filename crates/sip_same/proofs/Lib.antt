@@ -1,4 +1,3 @@
-pub mod SameKeys
+pub mod SameLists
 pub mod SameMaps
-pub mod SameParameters
 pub mod SameRests

@@ -15,6 +15,7 @@ mod parameters;
 mod pieces;
 mod quoted;
 mod run;
+mod same;
 mod separator;
 mod series;
 mod text;

@@ -1,8 +1,29 @@
-//! Messages and their parts.
+//! Whether two messages, or parts of them, are the same; so the names of events, addresses, and the
+//! keys of transactions.
 
-use crate::lists::are_same;
-use crate::same_value::SameValue;
-use sip_message::{CSeq, Header, Message, NameAddr, Party, RAck, StartLine, Via, Vias};
+use crate::{
+    Addr, CSeq, Header, Id, Message, NameAddr, Party, RAck, SharedKey, StartLine, Via, Vias,
+};
+use sip_same::{SameValue, are_same};
+
+impl SameValue for Id {
+    fn is_same(&self, other: &Id) -> bool {
+        *self == *other
+    }
+}
+
+impl SameValue for Addr {
+    fn is_same(&self, other: &Addr) -> bool {
+        *self == *other
+    }
+}
+
+impl SameValue for SharedKey {
+    #[tactic(auto, using(crate::proofs::SameKeys::same_keys, crate::proofs::SameKeys::equal_keys))]
+    fn is_same(&self, other: &SharedKey) -> bool {
+        *self == *other
+    }
+}
 
 impl SameValue for StartLine {
     fn is_same(&self, other: &StartLine) -> bool {

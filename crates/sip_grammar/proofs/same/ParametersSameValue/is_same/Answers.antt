@@ -1,8 +1,8 @@
 -- Parameters are the same if they are written alike.
 use Rattle.std.proofs.Common.{sym, ◌∙◌, ap}
 use Rattle.sip_grammar.specs.WrittenParameters.{parameters_text}
-use Rattle.sip_same.proofs.SameParameters.{same_parameters}
-use Rattle.sip_same.proofs.texts.ParametersSameValue.is_same.Goals as goal
+use Rattle.sip_grammar.proofs.SameParameters.{same_parameters}
+use Rattle.sip_grammar.proofs.same.ParametersSameValue.is_same.Goals as goal
 
 pub returns : goal.returns
 returns c =

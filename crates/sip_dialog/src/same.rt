@@ -1,8 +1,7 @@
-//! Dialogs and their ends.
+//! Whether two dialogs, or ends of them, are the same.
 
-use crate::lists::are_same;
-use crate::same_value::SameValue;
-use sip_dialog::{Dialog, Endpoint};
+use crate::{Dialog, Endpoint};
+use sip_same::{SameValue, are_same};
 
 impl SameValue for Endpoint {
     fn is_same(&self, other: &Endpoint) -> bool {

@@ -1,16 +1,7 @@
-//! Texts, and the parts of messages that are texts.
+//! Whether two parts of messages that are texts are the same.
 
-ghost use Rattle.std.specs.Prelude.{◌≡◌, ◌↔◌, IsTrue};
-
-use crate::same_value::SameValue;
-use sip_grammar::{Checked, Parameters, PartyParameters, Rule, StatusCode, Token};
-use sip_text::Text;
-
-impl SameValue for Text {
-    fn is_same(&self, other: &Text) -> bool {
-        are_same_bytes(self.as_slice(), other.as_slice())
-    }
-}
+use crate::{Checked, Parameters, PartyParameters, Rule, StatusCode, Token};
+use sip_same::{SameValue, are_same_bytes};
 
 impl<R: Rule> SameValue for Checked<R> {
     fn is_same(&self, other: &Checked<R>) -> bool {
@@ -41,10 +32,4 @@ impl SameValue for PartyParameters {
     fn is_same(&self, other: &PartyParameters) -> bool {
         self.as_parameters().is_same(other.as_parameters())
     }
-}
-
-fn are_same_bytes(text: &[u8], other: &[u8]) -> bool
-    ensures { IsTrue result ↔ (text.now ≡ other.now) }
-{
-    text == other
 }
