@@ -11,8 +11,8 @@ ghost use Rattle.sip_reliable.specs.Sound.{IsSound};
 
 use crate::provisional::{MOST_WAITING, Provisional};
 use crate::waiting::{
-    any_given_up, any_late, any_numbered, any_repeated, any_with_body, due_numbers, give_up, next_due,
-    repeat,
+    any_given_up, any_late, any_numbered, any_repeated, any_with_body, due_numbers, give_up,
+    next_due, repeat,
 };
 use crate::{NoMatch, SendFault, Tick};
 use arrayvec::ArrayVec;

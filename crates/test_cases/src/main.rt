@@ -4,6 +4,7 @@
 #![tactic(auto)]
 
 mod cases;
+mod compaction;
 mod devices;
 mod words;
 mod work;
@@ -20,13 +21,14 @@ const SUCCESS: u8 = 0;
 
 /// What is done without words: the cases of the folder in which the program runs, a small load, and
 /// everything that takes no numbers.
-const GATE: [&[&str]; 6] = [
+const GATE: [&[&str]; 7] = [
     &["cases", "."],
     &["transactions", "10", "10"],
     &["examples"],
     &["cuts", ".", "200"],
     &["devices", "."],
     &["sizes"],
+    &["compaction", "compaction"],
 ];
 
 fn main(rt: HostRuntime) -> ExitCode {

@@ -35,10 +35,12 @@ pub enum Task {
     Devices,
     /// Large numbers of everything.
     Sizes,
+    /// The journals of a folder, of which one is made short.
+    Compaction,
 }
 
 /// The word of each task, whether a text follows it, and how many numbers follow then.
-const FORMS: [(&str, Task, bool, usize); 12] = [
+const FORMS: [(&str, Task, bool, usize); 13] = [
     ("cases", Task::Cases, true, 0),
     ("read", Task::Read, true, 1),
     ("answer", Task::Answer, true, 1),
@@ -51,6 +53,7 @@ const FORMS: [(&str, Task, bool, usize); 12] = [
     ("cuts", Task::Cuts, true, 1),
     ("devices", Task::Devices, true, 0),
     ("sizes", Task::Sizes, false, 0),
+    ("compaction", Task::Compaction, true, 0),
 ];
 
 /// A task, and its text and numbers.

@@ -1,6 +1,7 @@
 //! What each task does.
 
 use crate::cases::run_cases;
+use crate::compaction::run_compaction;
 use crate::devices::run_devices;
 use crate::words::{Asked, Task};
 use sip_program::Host;
@@ -32,6 +33,7 @@ pub fn done<T: Threads + Host>(
         }
         Task::Cuts => cut(rt, threads, asked.text, first),
         Task::Devices => run_devices(rt, threads, asked.text),
+        Task::Compaction => run_compaction(rt, threads, asked.text),
         Task::Transactions => served(rt, transactions(threads, rt.alloc(), first, second)?),
         Task::Idle => served(rt, idle_rounds(threads, rt.alloc(), first, second)?),
         Task::Rounds => {

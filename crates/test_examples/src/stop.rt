@@ -34,6 +34,7 @@ bad words; it takes none, or one of
   cuts FOLDER N
   devices FOLDER
   sizes
+  compaction FOLDER
 with each number from 1 to 9999999, at most 999 rounds, 256 shards and 64 workers";
 
 /// Why a trial stopped.
