@@ -176,7 +176,7 @@ class IncomingRequest:
         self._agent.ask(Response(self._call_id, self._id, status, reason, body, headers))
         self.is_answered = status >= 200
         if status >= 300:
-            self.end()
+            self._end()
 
     async def acknowledged(self) -> Optional[Message]:
         """Waits for the ACK of your 2xx to a re-INVITE. None if it never comes."""
@@ -194,13 +194,13 @@ class IncomingRequest:
 
     def _told(self, notice: Notice) -> None:
         if isinstance(notice, AckNotice):
-            self.end(self._agent.message(notice.place, notice.body))
+            self._end(self._agent.message(notice.place, notice.body))
         elif not isinstance(notice, PrackNotice):
             self.is_answered = True
-            self.end()
+            self._end()
 
-    def end(self, ack: Optional[Message] = None) -> None:
-        """For this module: no ACK will come any more."""
+    def _end(self, ack: Optional[Message] = None) -> None:
+        """No ACK will come any more."""
         self._agent.forget(self._id)
         if not self._ack.done():
             self._ack.set_result(ack)
@@ -274,7 +274,7 @@ class Call:
         self._agent = agent
         self._tags: Optional[Tuple[str, str]] = None
         self._target = ""
-        self._authenticator = agent.authenticator()
+        self._authenticator = agent._new_authenticator()
         self._answer: Optional[Message] = None
         self._bye: Optional[Message] = None
         # The peer's requests that the user has to answer.
@@ -407,19 +407,19 @@ class Call:
         for request in self._open_requests:
             request.respond(487, "Request Terminated")
         if self._reinvite is not None:
-            self._reinvite.end()
+            self._reinvite._end()
         self._events.end(end)
         self._agent.forget(self._id)
-        self._agent.forget_call(self)
+        self._agent._forget_call(self)
 
     # -- what the user agent says
 
-    def abandon(self) -> None:
-        """For this module: the endpoint closes before this call has ended."""
+    def _abandon(self) -> None:
+        """The endpoint closes before this call has ended."""
         self._finish(Ended(None if self.is_up else FinalResponse(408, "Request Timeout")))
 
-    def take_request(self, notice: RequestNotice, message: Message) -> None:
-        """For this module: a request of the peer in a dialog of this call."""
+    def _take_request(self, notice: RequestNotice, message: Message) -> None:
+        """A request of the peer in a dialog of this call."""
         request = IncomingRequest(self._agent, notice, message)
         is_of_branch = self._tags not in (None, (notice.local_tag, notice.remote_tag))
         if notice.method == "BYE":
@@ -450,8 +450,8 @@ class Call:
             self._reinvite = request
             self._give(request)
 
-    def dialog_ended(self, tags: Tuple[str, str]) -> None:
-        """For this module: a dialog of this call has ended."""
+    def _dialog_ended(self, tags: Tuple[str, str]) -> None:
+        """A dialog of this call has ended."""
         if tags == self._tags:
             self._finish(Ended(message=self._bye))
 
@@ -517,7 +517,7 @@ class OutgoingCall(Call):
         if notice.status == 100:
             return
         if notice.status < 300:
-            self._agent.hold(self, tags)
+            self._agent._hold(self, tags)
         reason = message.start.reason or ""
         if notice.status < 200:
             self._events.put(Progress(notice.status, reason, message))
@@ -534,7 +534,7 @@ class OutgoingCall(Call):
         """Takes a 2xx. One of another branch of a fork, or after a CANCEL, is ended at once."""
         owes_ack = bool(message.body) and not self._invite.body
         if self._tags is None and not self._end.done():
-            self._agent.forget_later(self._id)
+            self._agent._forget_later(self._id)
             self._owes_ack = owes_ack
             if not self._is_left:
                 self._begin(tags, message, message)
@@ -563,7 +563,7 @@ class IncomingCall(Call):
         self._has_final = False
         self._tags = (notice.local_tag, notice.remote_tag)
         agent.handle(notice.id, self._told)
-        agent.hold(self, self._tags)
+        agent._hold(self, self._tags)
 
     def ring(self) -> None:
         """Responds 180."""
@@ -629,9 +629,9 @@ class IncomingCall(Call):
         if self._is_left:
             self._say_bye()
 
-    def take_request(self, notice: RequestNotice, message: Message) -> None:
-        """For this module: a request of the peer in one of its dialogs."""
-        super().take_request(notice, message)
+    def _take_request(self, notice: RequestNotice, message: Message) -> None:
+        """A request of the peer in one of its dialogs."""
+        super()._take_request(notice, message)
         if notice.method == "BYE":
             # It ends the early dialog too (RFC 3261, section 15.1.2).
             self.respond(487, "Request Terminated")
@@ -766,7 +766,7 @@ class UserAgent:
         def plain(credentials: Headers) -> Command:
             return Plain(token_hex(8), to, method, *uris, body, [*headers, *credentials])
 
-        return await self.exchange(plain, authenticator or self.authenticator(), method, uri)
+        return await self.exchange(plain, authenticator or self._new_authenticator(), method, uri)
 
     async def close(self, patience_s: float = CLOSE_S) -> None:
         """Ends all calls: 480 to those that nobody answered, else CANCEL or BYE. Waits for their
@@ -786,7 +786,7 @@ class UserAgent:
             pass
         self.endpoint.close()
         for call in list(self.calls):
-            call.abandon()
+            call._abandon()
         for response in self._responses:
             if not response.done():
                 response.set_result(FinalResponse(408, "Request Timeout"))
@@ -813,8 +813,8 @@ class UserAgent:
         if not self._handlers:
             self._is_idle.set()
 
-    def forget_later(self, event: Id) -> None:
-        """For this module: forgets an INVITE that was answered once no other branch of a fork can
+    def _forget_later(self, event: Id) -> None:
+        """Forgets an INVITE that was answered once no other branch of a fork can
         answer."""
         handler = self._handlers.get(event)
         if handler is not None:
@@ -823,21 +823,21 @@ class UserAgent:
             loop.call_later(TRANSACTION_S, self._answered_invites.pop, event, None)
         self.forget(event)
 
-    def hold(self, call: Call, tags: Tuple[str, str]) -> None:
-        """For this module: has requests in this dialog go to the call."""
+    def _hold(self, call: Call, tags: Tuple[str, str]) -> None:
+        """Has requests in this dialog go to the call."""
         dialog = (call.call_id, *tags)
         self._dialogs[dialog] = call
         call.dialogs.add(dialog)
 
-    def forget_call(self, call: Call) -> None:
-        """For this module: forgets a call that has ended, with its dialogs."""
+    def _forget_call(self, call: Call) -> None:
+        """Forgets a call that has ended, with its dialogs."""
         self.calls.discard(call)
         for dialog in call.dialogs:
             self._dialogs.pop(dialog, None)
         call.dialogs.clear()
 
-    def authenticator(self) -> Optional[Authenticator]:
-        """For this module: what answers the challenges to one request, if there is a user name."""
+    def _new_authenticator(self) -> Optional[Authenticator]:
+        """What answers the challenges to one request, if there is a user name."""
         return Authenticator(*self._login) if self._login[0] else None
 
     def message(self, place: int, body: bytes = b"") -> Optional[Message]:
@@ -907,8 +907,8 @@ class UserAgent:
 
     # -- notices
 
-    def told(self, output: Union[Notice, Drop]) -> None:
-        """For this module: takes a notice of the endpoint."""
+    def _told(self, output: Union[Notice, Drop]) -> None:
+        """Takes a notice of the endpoint."""
         if isinstance(output, RequestNotice):
             message = self.message(output.place, output.body)
             if message is not None:
@@ -918,7 +918,7 @@ class UserAgent:
             call = self._dialogs.pop((output.call_id, *tags), None)
             if call is not None:
                 call.dialogs.discard((output.call_id, *tags))
-                call.dialog_ended(tags)
+                call._dialog_ended(tags)
         elif isinstance(output, Notice):
             # All other notices have the id of a request or of a command.
             event: Id = getattr(output, "id")
@@ -929,7 +929,7 @@ class UserAgent:
     def _take_request(self, notice: RequestNotice, message: Message) -> None:
         call = self._dialogs.get((notice.call_id, notice.local_tag, notice.remote_tag))
         if call is not None:
-            call.take_request(notice, message)
+            call._take_request(notice, message)
         elif notice.method == "INVITE":
             self._take_call(notice, message)
         else:
@@ -969,7 +969,7 @@ async def open_user_agent(
     """
     agent = UserAgent(proxy, username, password, on_request, most_calls)
     agent.endpoint = await open_endpoint(
-        library, address, agent.told, local, most_transactions=most_transactions
+        library, address, agent._told, local, most_transactions=most_transactions
     )
     ip, port = agent.endpoint.local
     agent.uri = uri or f"sip:{ip}:{port}"

@@ -52,7 +52,8 @@ class Registration:
     """The binding of a user agent's Contact at a registrar. `register` makes it, and `unregister`
     removes it. `response` is the registrar's last one, a FinalResponse; `contacts` are the bindings
     that it then held, a list of values of Contact; and `expires_s`, an int, is the time in s that
-    it granted, 0 while nothing is registered. `async for` gives each final response from then on."""
+    it granted, 0 while nothing is registered. `async for` gives each final response from then on,
+    and ends with `unregister`."""
 
     def __init__(
         self,

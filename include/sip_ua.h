@@ -267,9 +267,9 @@ enum {
                                      header of a cancel */
 };
 
-/* An initial INVITE. It is sent to `address`. `request_uri`, `from` and `to` are URIs, without
- * tags. `requires_100rel` overrides `supports_100rel`. For all commands: a body has the type
- * application/sdp, unless a header Content-Type says another one. */
+/* An initial INVITE. It is sent to `address`. `request_uri`, `from` and `to` are URIs, without tags
+ * and display names. `requires_100rel` overrides `supports_100rel`. For all commands: a body has the
+ * type application/sdp, unless a header Content-Type says another one. */
 typedef struct sip_ua_invite_fields {
     sip_ua_bytes call_id;
     sip_ua_address address;
@@ -883,7 +883,8 @@ static inline uint8_t *sip_ua_raw_room(uint8_t *buffer, uint8_t *otherwise)
 /* Takes the next output of the last round, by its fields, and writes its texts to the buffer. The
  * kind SIP_UA_NOTHING says that none is left. No text ends in a zero byte. Faults: SIP_UA_NO_ROOM,
  * if the texts are longer than `room`: the output is filled in and stays, and sip_ua_texts_len says
- * how much room it needs; SIP_UA_NO_MEMORY. */
+ * how much room it needs; SIP_UA_NO_MEMORY: the output stays, and the struct says nothing of it (its
+ * kind is SIP_UA_NOTHING). */
 static inline uint32_t sip_ua_next(sip_ua *agent, sip_ua_typed_output *output, uint8_t *buffer,
                                    size_t room)
 {
