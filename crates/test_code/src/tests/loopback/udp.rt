@@ -1,6 +1,6 @@
 //! The agent over UDP: inlets that fail, and calls on loopback.
 
-use super::loopback::{Answers, Calls, bound, called, listened, names, stand_in_order};
+use super::talks::{Answers, Calls, bound, called, listened, names, stand_in_order};
 use sip_applications::{CallPlan, ListenPlan, call, call_from, listen, listen_at};
 use sip_desk::{Desk, NoMemory, Poster, open};
 use sip_message::Addr;

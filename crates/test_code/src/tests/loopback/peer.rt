@@ -1,6 +1,6 @@
 //! A peer of a listener: what it is answered, and what is shed.
 
-use super::loopback::{bound, stand_in_order};
+use super::talks::{bound, stand_in_order};
 use sip_applications::{AnswerBody, ListenPlan, listen_at};
 use sip_message::Addr;
 use sip_udp::Endpoint;

@@ -1,6 +1,6 @@
 //! A journal: an agent on a pipe goes on from its rounds, and ends if it can't be written.
 
-use super::loopback::bound;
+use super::talks::bound;
 use sip_applications::agent;
 use sip_round::Config;
 use sip_udp::{Endpoint, Keeping, Past, RecordFile, UaFault};

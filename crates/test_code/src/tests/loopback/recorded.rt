@@ -1,6 +1,6 @@
 //! Runs over UDP that are recorded. The replay of a record sends and tells what the run did.
 
-use super::loopback::{Answers, Calls, Run, bound, called, listened, stand_in_order};
+use super::talks::{Answers, Calls, Run, bound, called, listened, stand_in_order};
 use sip_applications::agent;
 use sip_files::{FileKind, ReplayFault, replay};
 use sip_message::{Addr, Spread};

@@ -1,0 +1,6 @@
+//! Tests of the layers below rounds.
+
+mod desk;
+mod dialog;
+mod reliable;
+mod workers;

@@ -1,5 +1,0 @@
-//! Tests of the layers below rounds.
-#![tactic(auto)]
-
-#[cfg(test)]
-mod tests;

@@ -1,5 +1,0 @@
-//! Tests of agents over UDP, on loopback.
-#![tactic(auto)]
-
-#[cfg(test)]
-mod tests;
