@@ -3,9 +3,10 @@
 
 ends.py LIBRARY [TRIALS [SESSION..]]: random datagrams, commands, failed sends and times. Then each
 request that came up gets a 486, each request that was sent and each dialog is given up, and time
-passes. After that an agent has to hold nothing: no transaction, no call, no timer. Nor may it at
-the end of the session files that are named, 64 s after their last round. The status is 0 if that is
-so.
+passes. After that an agent has to hold nothing: no transaction, no call, no timer. So it is for one
+that goes on from the rounds of that one, if what `held_by` lists is ended alone. Nor may an agent
+hold anything at the end of the session files that are named, 64 s after their last round. The
+status is 0 if that is so.
 """
 
 import random
@@ -13,6 +14,7 @@ import sys
 from typing import Dict, List, Optional, Set, Tuple
 
 import sip_ua as ua
+from sip_ua_journal import head_of, held_by
 
 LOCAL = ("192.0.2.1", 5060)
 PEER = ("192.0.2.9", 5060)
@@ -25,7 +27,10 @@ class Trial:
 
     def __init__(self, library: str, seed: int) -> None:
         self.random = random.Random(seed)
-        self.agent = ua.Agent(library, LOCAL, bytes([seed % 256]) * 32)
+        self.library = library
+        self.seed = bytes([seed % 256]) * 32
+        self.agent = ua.Agent(library, LOCAL, self.seed)
+        self.rounds = b""
         self.now = 0
         self.sent: List[Dict[str, str]] = []
         self.requests: Set[Tuple[str, ua.Id]] = set()
@@ -100,7 +105,9 @@ class Trial:
 
     def round(self) -> None:
         """A round, whose sends may fail."""
-        for output in self.agent.run(self.now):
+        outputs = self.agent.run(self.now)
+        self.rounds += self.agent.round_text()
+        for output in outputs:
             if isinstance(output, ua.Send):
                 self.note(output.datagram)
                 if self.random.random() < 0.05:
@@ -127,11 +134,29 @@ class Trial:
             self.ask(ua.AbandonRequest(call_id, id))
         for dialog in sorted(self.dialogs):
             self.ask(ua.AbandonDialog(*dialog))
+        left = self.left(self.agent)
+        return left if left is not None else self.end_again()
+
+    def end_again(self) -> Optional[str]:
+        """Ends what another agent holds that goes on from the rounds of this one."""
+        held = held_by(self.library, head_of(LOCAL, self.seed) + self.rounds)
+        agent = ua.Agent(self.library, LOCAL, self.seed)
+        agent.resume(self.rounds)
+        for request in held.requests.values():
+            agent.ask(ua.Response(request.call_id, request.id, 486))
+        for id, call_id in held.invites.items():
+            agent.ask(ua.AbandonRequest(call_id, id))
+        for dialog in held.dialogs.values():
+            agent.ask(ua.AbandonDialog(dialog.call_id, dialog.local_tag, dialog.remote_tag))
+        return self.left(agent)
+
+    def left(self, agent: ua.Agent) -> Optional[str]:
+        """What is held when time has passed, if anything is."""
         for wait in (0, LIFETIME_MS, LIFETIME_MS):
             self.now += wait
-            self.agent.run(self.now)
-        stats, due = self.agent.stats(), self.agent.next_due()
-        self.agent.close()
+            agent.run(self.now)
+        stats, due = agent.stats(), agent.next_due()
+        agent.close()
         if (stats.transactions, stats.calls) == (0, 0) and due is None:
             return None
         return f"{stats.transactions} transactions, {stats.calls} calls, due {due}"

@@ -317,7 +317,7 @@ class AbandonDialog(Command):
 @dataclass(frozen=True)
 class Output:
     """What a round gives. `place` is that of the event that caused it, from 1. It is 0 if a timer
-    caused it, or if it is a new request (not ACK) or response (not 100)."""
+    caused it; also for a Send of a new request (not ACK) or response (not 100)."""
 
     place: int
 

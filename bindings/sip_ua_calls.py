@@ -66,6 +66,7 @@ from sip_ua import (
     TimeoutNotice,
 )
 from sip_ua_digest import CHALLENGES, Authenticator
+from sip_ua_journal import FileJournal, Held, HeldDialog, held_by
 from sip_ua_udp import MOST_TRANSACTIONS, Endpoint, open_endpoint
 
 __all__ = (
@@ -89,8 +90,11 @@ MOST_UNREAD = 256
 # How often a request answers challenges.
 MOST_ANSWERS = 3
 ALLOW = ("Allow", "INVITE, ACK, CANCEL, OPTIONS, BYE, PRACK")
+# The responses to requests that another process left.
+_LEFT = {"INVITE": (480, "Temporarily Unavailable"), "BYE": (200, "OK")}
 
-_HOST = re.compile(r"sip:(?:[^@]*@)?([^:;?>]+)(?::(\d+))?", re.IGNORECASE)
+_HOST = re.compile(r"sip:(?:[^@]*@)?([^][:;?>\s]+)(?::(\d{1,5}))?(?:[;?>]|\Z)", re.IGNORECASE)
+MOST_PORT = 65535
 _QUOTED = re.compile(r'"(?:[^"\\]|\\.)*"')
 _Handler = Callable[[Notice], None]
 # A Call-ID, a local and a remote tag.
@@ -665,11 +669,11 @@ def uri_of(value: str) -> str:
 
 async def address_of(uri: str) -> Address:
     """The address of a URI's host, by DNS if it is a name, and its port, 5060 without one. Raises
-    ValueError if the URI isn't a `sip:` URI with a host that is a name or an IPv4 address, and
-    OSError if the name isn't found."""
+    ValueError if the URI isn't a `sip:` URI with a host that is a name or an IPv4 address, or its
+    port isn't a number up to 65,535, and OSError if the name isn't found."""
     found = _HOST.match(uri)
-    if found is None:
-        raise ValueError(f"no host in {uri!r}")
+    if found is None or int(found[2] or SIP_PORT) > MOST_PORT:
+        raise ValueError(f"no address in {uri!r}")
     host, port = found[1], int(found[2] or SIP_PORT)
     try:
         return str(ipaddress.IPv4Address(host)), port
@@ -690,7 +694,8 @@ class UserAgent:
     `uri` is the user's own, which From says. `proxy` is where all requests go, otherwise to the
     address in their URI. The username and the password answer challenges. `on_request` is called
     with each request outside of calls; without it, they are refused. A peer's call gets 503 while
-    there are `most_calls`, one's own among them; `call` has no limit."""
+    there are `most_calls`, one's own among them; `call` has no limit. With a journal, `left` has
+    the Call-IDs of the calls that a process which died left: they are ended."""
 
     endpoint: Endpoint
     uri: str
@@ -716,6 +721,9 @@ class UserAgent:
         self._responses: "Set[asyncio.Future[FinalResponse]]" = set()
         self._is_closing = False
         self._is_idle = asyncio.Event()
+        # The Call-IDs of the calls that another process left, and its peers' requests.
+        self.left: Set[str] = set()
+        self._left_requests: Set[Id] = set()
 
     async def __aenter__(self) -> "UserAgent":
         return self
@@ -770,7 +778,8 @@ class UserAgent:
 
     async def close(self, patience_s: float = CLOSE_S) -> None:
         """Ends all calls: 480 to those that nobody answered, else CANCEL or BYE. Waits for their
-        ends and for the responses to requests, at most so many seconds, and closes the endpoint."""
+        ends and for the responses to requests, at most so many seconds, and closes the endpoint.
+        Then its address is free."""
         if self.endpoint.is_closed:
             return
         self._is_closing = True
@@ -790,6 +799,7 @@ class UserAgent:
         for response in self._responses:
             if not response.done():
                 response.set_result(FinalResponse(408, "Request Timeout"))
+        await self.endpoint.wait_closed()
 
     async def _idle(self) -> None:
         """Waits until no request waits for its end."""
@@ -905,10 +915,68 @@ class UserAgent:
             self.ask(AbandonRequest(command.call_id, asked))
         return FinalResponse(481, "Call/Transaction Does Not Exist")
 
+    # -- calls of a process that died
+
+    def _end_left(self, held: Held) -> None:
+        """Ends what another process left: those that ring by CANCEL or 480, others by BYE."""
+        self._left_requests = set(held.requests)
+        for event, call_id in held.invites.items():
+            self.left.add(call_id)
+            self._cancel_left(call_id, event)
+        for event, notice in held.requests.items():
+            status, reason = _LEFT.get(notice.method, (481, "Call/Transaction Does Not Exist"))
+            if notice.method == "INVITE":
+                self.left.add(notice.call_id)
+            self.ask(Response(notice.call_id, event, status, reason))
+        for dialog in held.dialogs.values():
+            self.left.add(dialog.call_id)
+            self._leave(dialog)
+
+    def _cancel_left(self, call_id: str, event: Id) -> None:
+        """Cancels an INVITE. If it is answered all the same, its dialog is ended."""
+
+        def told(notice: Notice) -> None:
+            if not isinstance(notice, ResponseNotice) or notice.status >= 300:
+                self.forget(event)
+            elif notice.status >= 200:
+                self._forget_later(event)
+                self._leave(HeldDialog(call_id, notice.local_tag, notice.remote_tag, None))
+
+        def give_up() -> None:
+            if event in self._handlers and not self.endpoint.is_closed:
+                self.ask(AbandonRequest(call_id, event))
+                self.forget(event)
+
+        self.handle(event, told)
+        self.ask(Cancel(call_id, event))
+        asyncio.get_running_loop().call_later(TRANSACTION_S, give_up)
+
+    def _leave(self, dialog: HeldDialog) -> None:
+        """Sends the BYE of a dialog: after the ACK of its 2xx, our own or the peer's."""
+        names = (dialog.call_id, dialog.local_tag, dialog.remote_tag)
+        if dialog.waits_for is None:
+            # It is refused where none is owed.
+            self.ask(Ack(*names))
+            asked = self.ask(Request(*names, "BYE"))
+        else:
+            asked = dialog.waits_for
+
+        def told(notice: Notice) -> None:
+            if isinstance(notice, PrackNotice):
+                return
+            if not isinstance(notice, ResponseNotice) or notice.status >= 200:
+                self.forget(asked)
+            if isinstance(notice, (AckNotice, NoAckNotice)):
+                self._leave(dialog._replace(waits_for=None))
+
+        self.handle(asked, told)
+
     # -- notices
 
     def _told(self, output: Union[Notice, Drop]) -> None:
         """Takes a notice of the endpoint."""
+        if isinstance(output, RequestNotice) and output.id in self._left_requests:
+            return
         if isinstance(output, RequestNotice):
             message = self.message(output.place, output.body)
             if message is not None:
@@ -963,14 +1031,27 @@ async def open_user_agent(
     most_calls: int = MOST_CALLS,
     most_transactions: int = MOST_TRANSACTIONS,
     local: Optional[Address] = None,
+    journal: Optional[str] = None,
 ) -> UserAgent:
     """Opens a user agent whose socket has this address; port 0 takes a free one. `local` and
     `most_transactions` are as for `open_endpoint`. Without a URI, its own is that of its address.
-    """
+
+    With the path of a journal (sip_ua_journal.py), calls that a process left when it died are ended
+    as soon as this one is open, by BYE, CANCEL or 480: `left` has their Call-IDs."""
     agent = UserAgent(proxy, username, password, on_request, most_calls)
-    agent.endpoint = await open_endpoint(
-        library, address, agent._told, local, most_transactions=most_transactions
-    )
+    kept = FileJournal(journal) if journal is not None else None
+    try:
+        held = Held() if kept is None else held_by(library, kept.read())
+        agent.endpoint = await open_endpoint(
+            library, address, agent._told, local, None, most_transactions, kept
+        )
+    except BaseException:
+        if kept is not None:
+            kept.close()
+        raise
+    if kept is not None:
+        agent.endpoint.owns(kept)
+        agent._end_left(held)
     ip, port = agent.endpoint.local
     agent.uri = uri or f"sip:{ip}:{port}"
     return agent

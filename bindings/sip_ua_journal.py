@@ -6,22 +6,42 @@ Each round stands in the journal before one of its datagrams is sent or one of i
 process that opens an endpoint with the journal of one that died holds what that one held. The
 notices of the last round are told again, since they may not have been acted upon; what that round
 sent may be lost, and retransmissions mend it. A journal is a session file, as `ua --journal` writes
-it (docs/FORMATS.md). It has the agent's seed: keep it secret.
+it (docs/FORMATS.md). It has the agent's seed: keep it secret. It only grows: while no process has
+it, `ua compact` makes it shorter.
 """
 
 import errno
 import fcntl
 import os
 import re
-from typing import List, NamedTuple, Optional, Protocol, Tuple
+from dataclasses import dataclass, field
+from typing import Dict, Iterable, List, NamedTuple, Optional, Protocol, Tuple
 
-from sip_ua import Address, Agent, Error, Output, Status
+from sip_ua import (
+    AckNotice,
+    Address,
+    Agent,
+    CancelNotice,
+    EndedNotice,
+    Error,
+    FailedNotice,
+    Id,
+    NoAckNotice,
+    Output,
+    RefusedNotice,
+    RequestNotice,
+    ResponseNotice,
+    Status,
+    TimeoutNotice,
+)
 
-__all__ = ["FileJournal", "Journal", "JournalError", "Resumed"]
-__all__ += ["agent_of", "head_of", "resumed", "run_again"]
+__all__ = ["FileJournal", "Held", "HeldDialog", "Journal", "JournalError", "Resumed"]
+__all__ += ["agent_of", "head_of", "held_by", "resumed", "run_again"]
 
 _HEAD = re.compile(rb"sip-session 1\nlocal (\S+)\nseed ([0-9a-f]{64})\nfirst (\d+)\n")
 _ROUND = re.compile(rb"^round (\d+)\n", re.MULTILINE)
+_ESCAPE = re.compile(rb"\\(?:x(..)|(.))")
+_ESCAPES = {b"s": b" ", b"r": b"\r", b"n": b"\n", b"t": b"\t", b"\\": b"\\"}
 
 
 class JournalError(Exception):
@@ -46,8 +66,8 @@ class Journal(Protocol):
 
 
 class FileJournal:
-    """A journal in a file. Another process that has it open is an OSError. With `is_synced`, each
-    round waits for the disk: then a power cut loses nothing, either."""
+    """A journal in a file. It is an OSError if it is open already, in another process or in this
+    one. With `is_synced`, each round waits for the disk: then a power cut loses nothing, either."""
 
     def __init__(self, path: str, is_synced: bool = False):
         self._is_synced = is_synced
@@ -79,7 +99,7 @@ class FileJournal:
         os.ftruncate(self._file, length)
 
     def close(self) -> None:
-        """Closes the file. Then another process can have it."""
+        """Closes the file. Then it can be opened again."""
         os.close(self._file)
 
 
@@ -156,9 +176,12 @@ def _last_round(agent: Agent, journal: Journal, text: bytes, begin: int) -> Resu
     return Resumed(agent, moment, outputs)
 
 
-def run_again(agent: Agent, lines: bytes) -> Tuple[int, List[Output], int]:
+def run_again(
+    agent: Agent, lines: bytes, commands: Optional[List[Tuple[Id, bytes]]] = None
+) -> Tuple[int, List[Output], int]:
     """Runs a round with what is whole of its lines. Returns its moment, its outputs, and how many
-    bytes were whole. The outputs were taken care of before, or else may not have been."""
+    bytes were whole. The outputs were taken care of before, or else may not have been. The ids and
+    lines of its commands are appended to the list."""
     head = _ROUND.match(lines)
     if head is None:
         raise JournalError("bad round")
@@ -171,6 +194,10 @@ def run_again(agent: Agent, lines: bytes) -> Tuple[int, List[Output], int]:
                 raise
             break
         whole += len(event)
+        if commands is not None and not event.startswith((b"datagram ", b"failed ")):
+            asked = agent.last_id()
+            assert asked is not None
+            commands.append((asked, event.rstrip(b"\n").rpartition(b"\n")[2]))
     moment = int(head[1])
     return moment, agent.run(moment), whole
 
@@ -191,3 +218,125 @@ def _events(lines: bytes) -> List[bytes]:
             events.append(event)
             event = b""
     return events
+
+
+# ---- what is held
+
+
+class HeldDialog(NamedTuple):
+    """A dialog that is up. `waits_for` is the peer's INVITE whose 2xx has had no ACK yet."""
+
+    call_id: str
+    local_tag: str
+    remote_tag: str
+    waits_for: Optional[Id]
+
+
+@dataclass
+class Held:
+    """The calls that the agent of a journal holds: its own INVITEs without a final response, with
+    their Call-IDs; the peers' requests that weren't answered; and the dialogs that are up, by
+    Call-ID and tags in lower case."""
+
+    invites: Dict[Id, str] = field(default_factory=dict)
+    requests: Dict[Id, RequestNotice] = field(default_factory=dict)
+    dialogs: Dict[Tuple[str, str, str], HeldDialog] = field(default_factory=dict)
+    _answered: Dict[Id, str] = field(default_factory=dict)
+
+    def _take_round(self, commands: Iterable[Tuple[Id, bytes]], outputs: List[Output]) -> None:
+        """Takes a round: its commands, other than those that were refused, and its outputs, in the
+        order of the events that caused them; what timers caused comes first."""
+        refused = {it.id for it in outputs if isinstance(it, RefusedNotice)}
+        asked = {event.place: (event, line) for event, line in commands if event not in refused}
+        told: Dict[int, List[Output]] = {}
+        for output in outputs:
+            told.setdefault(output.place, []).append(output)
+        for place in sorted({*asked, *told}):
+            if place in asked:
+                event, line = asked[place]
+                self._take_command(event, line.split(b" "))
+            for output in told.get(place, []):
+                self._take(output)
+
+    def _take_command(self, event: Id, words: List[bytes]) -> None:
+        if words[0] == b"invite" or words[0] == b"request" and words[4] == b"INVITE":
+            self.invites[event] = _unspelled(words[1])
+        elif words[0] == b"respond" and int(words[3]) >= 200:
+            request = self.requests.pop(_id_of(words[2]), None)
+            if request is not None and request.method == "INVITE" and int(words[3]) < 300:
+                self._hold(request.call_id, request.local_tag, request.remote_tag, request.id)
+        elif words[0] == b"abandon" and len(words) == 3:
+            self.invites.pop(_id_of(words[2]), None)
+        elif words[0] == b"abandon":
+            self._leave(*map(_unspelled, words[1:4]))
+
+    def _take(self, output: Output) -> None:
+        if isinstance(output, RequestNotice):
+            self.requests[output.id] = output
+        elif isinstance(output, ResponseNotice):
+            self._take_response(output)
+        elif isinstance(output, (TimeoutNotice, FailedNotice)):
+            self.invites.pop(output.id, None)
+        elif isinstance(output, CancelNotice):
+            self.requests.pop(output.id, None)
+        elif isinstance(output, (AckNotice, NoAckNotice)):
+            for name, dialog in self.dialogs.items():
+                if dialog.waits_for == output.id:
+                    self.dialogs[name] = dialog._replace(waits_for=None)
+        elif isinstance(output, EndedNotice):
+            self._leave(output.call_id, output.local_tag, output.remote_tag)
+
+    def _take_response(self, notice: ResponseNotice) -> None:
+        call_id = self.invites.get(notice.id) or self._answered.get(notice.id)
+        if call_id is None or notice.status < 200:
+            return
+        self.invites.pop(notice.id, None)
+        if notice.status < 300:
+            # Other branches of a fork may answer too.
+            self._answered[notice.id] = call_id
+            self._hold(call_id, notice.local_tag, notice.remote_tag, None)
+
+    def _hold(self, call_id: str, local: str, remote: str, waits_for: Optional[Id]) -> None:
+        dialog = HeldDialog(call_id, local, remote, waits_for)
+        self.dialogs.setdefault((call_id, local.lower(), remote.lower()), dialog)
+
+    def _leave(self, call_id: str, local: str, remote: str) -> None:
+        self.dialogs.pop((call_id, local.lower(), remote.lower()), None)
+
+
+def held_by(library: str, text: bytes) -> Held:
+    """What the agent of a journal holds, by running all its rounds: some 0.1 ms an event. What
+    isn't whole at its end has no effect, as where it is resumed."""
+    held = Held()
+    begins = [found.start() for found in _ROUND.finditer(text)]
+    if not begins:
+        return held
+    found = _HEAD.match(text)
+    if found is None:
+        raise JournalError("not a journal")
+    local = found[1].decode().rpartition(":")
+    agent = agent_of(library, (local[0], int(local[2])), text)
+    try:
+        for begin, end in zip(begins, [*begins[1:], len(text)]):
+            lines = text[begin:end]
+            if end == len(text) and not _is_whole(lines):
+                break
+            commands: List[Tuple[Id, bytes]] = []
+            _, outputs, _ = run_again(agent, lines, commands)
+            held._take_round(commands, outputs)
+    finally:
+        agent.close()
+    return held
+
+
+def _unspelled(word: bytes) -> str:
+    """The text that a word of a line spells."""
+    text = b"" if word == b"-" else _ESCAPE.sub(
+        lambda it: bytes.fromhex(it[1].decode()) if it[1] else _ESCAPES.get(it[2], it[2]), word
+    )
+    return text.decode("utf-8", "surrogateescape")
+
+
+def _id_of(word: bytes) -> Id:
+    number, _, place = word.partition(b".")
+    return Id(int(number), int(place))

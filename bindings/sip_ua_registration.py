@@ -192,8 +192,9 @@ async def register(
 ) -> Registration:
     """Registers the user of a URI such as sip:alice@example.com, and returns the registration once
     it stands. Raises RegistrationFailed otherwise. The registrar is at the address, else at the
-    agent's proxy or in the URI's domain. The username is that of the URI, unless given; the contact
-    is that user at the agent's address. `expires_s` is what to ask for, in s."""
+    agent's proxy or in the URI's domain. The username is that of the URI, unless given; the
+    contact, a URI without brackets, is that user at the agent's address. `expires_s` is what to ask
+    for, in s."""
     registration = Registration(agent, uri, password, address, username, contact, expires_s)
     await registration.start()
     return registration

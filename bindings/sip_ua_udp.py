@@ -45,9 +45,10 @@ OnTold = Callable[[Union[Notice, Drop]], None]
 
 
 class Endpoint(asyncio.DatagramProtocol):
-    """An agent with its socket. `open_endpoint` opens one, and `close` closes it. `local` is what
-    Via and Contact say. `lost` counts the datagrams that had no room in a round or above
-    `most_transactions`."""
+    """An agent with its socket. `open_endpoint` opens one, and `close` closes it. `agent` is the
+    Agent. `local` is what Via and Contact say. `lost` counts the datagrams that had no room in a
+    round or above `most_transactions`. `is_closed` says whether it was closed: by `close`, or since
+    its journal couldn't be written. Then `ask` raises Error NO_AGENT."""
 
     def __init__(
         self,
@@ -71,27 +72,47 @@ class Endpoint(asyncio.DatagramProtocol):
         self._transport: Optional[asyncio.DatagramTransport] = None
         self._has_failed = False
         self.is_closed = False
+        self._is_gone: "asyncio.Future[None]" = self._loop.create_future()
+        self._opened: Optional[FileJournal] = None
 
     def ask(self, command: Command) -> Id:
-        """Gives a command. Notices about it have the id that this returns."""
+        """Gives a command. Notices about it have the id that this returns. A bad field raises an
+        Error, a port above 65,535 or a bad IP a ValueError."""
         event = self.agent.ask(command)
         self._run_soon()
         return event
 
     def close(self) -> None:
-        """Frees the agent and closes the socket. A second close does nothing."""
+        """Frees the agent, and closes the socket and the journal that `open_endpoint` opened. A
+        second close does nothing. The socket closes in the next turn of the event loop: before you
+        open the same address again, await `wait_closed`."""
         if self.is_closed:
             return
         self.is_closed = True
         if self._next is not None:
             self._next.cancel()
         self.agent.close()
+        if self._opened is not None:
+            self._opened.close()
         if self._transport is not None:
             self._transport.close()
+
+    async def wait_closed(self) -> None:
+        """Waits until the socket is closed: then its address is free."""
+        await asyncio.shield(self._is_gone)
+
+    def owns(self, journal: FileJournal) -> None:
+        """Has `close` close this journal too."""
+        self._opened = journal
 
     def connection_made(self, transport: asyncio.BaseTransport) -> None:
         """The socket is open: called by asyncio."""
         self._transport = cast(asyncio.DatagramTransport, transport)
+
+    def connection_lost(self, exc: Optional[Exception]) -> None:
+        """The socket is closed: called by asyncio."""
+        if not self._is_gone.done():
+            self._is_gone.set_result(None)
 
     def datagram_received(self, data: bytes, addr: Address) -> None:
         """A datagram came: called by asyncio."""
@@ -195,21 +216,33 @@ async def open_endpoint(
     """Opens an endpoint whose socket has this address; port 0 takes a free one. `local` is what Via
     and Contact say, if that isn't the socket's address: behind a NAT the one at which peers reach
     it. Without a seed it takes a random one. While `most_transactions` are held, new requests
-    are ignored, except in calls; while twice as many are, these too. With a journal, or the path of
-    one, it goes on where another process ended (sip_ua_journal.py): the notices of the last round
-    are then told again, soon after it is open."""
+    are ignored, except in calls; while twice as many are, these too.
+
+    With a journal, or the path of one, it goes on where another process ended (sip_ua_journal.py):
+    the notices of the last round are then told again, after this has returned. The agent doesn't
+    list its calls: `sip_ua_journal.held_by` does. `close` closes a journal given by its path."""
+    if isinstance(journal, str):
+        opened = FileJournal(journal)
+        try:
+            endpoint = await open_endpoint(
+                library, address, on_told, local, seed, most_transactions, opened
+            )
+        except BaseException:
+            opened.close()
+            raise
+        endpoint.owns(opened)
+        return endpoint
     udp = _bound(address)
     try:
         own = local or udp.getsockname()
-        kept = FileJournal(journal) if isinstance(journal, str) else journal
-        if kept is None:
+        if journal is None:
             begun = Resumed(Agent(library, own, os.urandom(32) if seed is None else seed), None, [])
         else:
-            begun = resumed(library, own, seed, kept)
+            begun = resumed(library, own, seed, journal)
     except BaseException:
         udp.close()
         raise
-    return await _open(udp, own, on_told, begun, most_transactions, kept)
+    return await _open(udp, own, on_told, begun, most_transactions, journal)
 
 
 async def open_resumed(

@@ -4,6 +4,7 @@ examples/c/register.c. The examples are on the path."""
 
 import asyncio
 import os
+import tempfile
 import unittest
 from typing import Any, Awaitable, Callable, List, Tuple, TypeVar
 
@@ -22,9 +23,12 @@ from sip_ua_calls import (
     OutgoingCall,
     Progress,
     UserAgent,
+    address_of,
     open_user_agent,
 )
+from sip_ua_journal import JournalError
 from sip_ua_registration import RegistrationFailed, granted_s, register
+from sip_ua_udp import open_endpoint
 
 LIBRARY = os.environ["SIP_UA_LIBRARY"]
 ANY_PORT = ("127.0.0.1", 0)
@@ -366,6 +370,80 @@ class CallsTest(unittest.IsolatedAsyncioTestCase):
             endpoint.datagram_received(b"x", ("127.0.0.1", 9))
         self.assertEqual(endpoint.lost, 3)
         self.assertEqual((await soon(self.one.request("OPTIONS", self.two.uri))).status, 200)
+
+
+
+class LeftTest(unittest.IsolatedAsyncioTestCase):
+    """Calls of a user agent whose process died, and which was opened again."""
+
+    async def test_calls_that_a_process_left(self) -> None:
+        with tempfile.TemporaryDirectory() as room:
+            path = os.path.join(room, "journal")
+            one = await open_user_agent(LIBRARY, ANY_PORT, journal=path)
+            two = await open_user_agent(LIBRARY, ANY_PORT)
+            pairs = [(one, two), (one, two), (two, one), (two, one)]
+            calls = [await self.ringing(*pair) for pair in pairs]
+            for outgoing, incoming in (calls[0], calls[2]):
+                incoming.answer(ANSWER)
+                await soon(outgoing.answered())
+                await soon(incoming.answered())
+            one.endpoint.close()
+            await one.endpoint.wait_closed()
+
+            again = await open_user_agent(LIBRARY, one.endpoint.local, journal=path)
+            self.assertEqual(again.left, {outgoing.call_id for outgoing, _ in calls})
+            ends = [
+                await soon(call.ended())
+                for call in (calls[0][1], calls[1][1], calls[2][0], calls[3][0])
+            ]
+            statuses = [end.response and end.response.status for end in ends]
+            self.assertEqual(statuses, [None, 487, None, 480])
+            methods = [end.message and end.message.start.method for end in ends[:3]]
+            self.assertEqual(methods, ["BYE", "CANCEL", "BYE"])
+            await self.is_of_use(two, again)
+            await again.close()
+            # Nothing is left, and the address is free.
+            once_more = await open_user_agent(LIBRARY, one.endpoint.local, journal=path)
+            self.assertEqual(once_more.left, set())
+            await once_more.close()
+            await two.close()
+
+    async def is_of_use(self, one: UserAgent, two: UserAgent) -> None:
+        outgoing, incoming = await self.ringing(one, two)
+        incoming.answer(ANSWER)
+        await soon(outgoing.answered())
+        outgoing.hang_up()
+        await soon(incoming.ended())
+
+    async def ringing(self, one: UserAgent, two: UserAgent) -> Tuple[OutgoingCall, IncomingCall]:
+        coming = asyncio.ensure_future(next_call(two))
+        await asyncio.sleep(0)
+        outgoing = await one.call(two.uri, OFFER)
+        incoming = await soon(coming)
+        incoming.ring()
+        async for event in outgoing:
+            if isinstance(event, Progress):
+                break
+        return outgoing, incoming
+
+    async def test_a_journal_that_open_endpoint_opened(self) -> None:
+        with tempfile.TemporaryDirectory() as room:
+            path = os.path.join(room, "journal")
+            for _ in range(2):
+                endpoint = await open_endpoint(LIBRARY, ANY_PORT, print, ANY_PORT, journal=path)
+                endpoint.close()
+                await endpoint.wait_closed()
+            with self.assertRaises(JournalError):
+                await open_endpoint(LIBRARY, ANY_PORT, print, journal=path)
+            endpoint = await open_endpoint(LIBRARY, ANY_PORT, print, ANY_PORT, journal=path)
+            endpoint.close()
+
+    async def test_addresses_of_uris(self) -> None:
+        self.assertEqual(await address_of("sip:b:p@127.0.0.1:70;lr?a=b"), ("127.0.0.1", 70))
+        self.assertEqual(await address_of("SIP:127.0.0.1"), ("127.0.0.1", 5060))
+        for bad in ("b@h", "sip:h:x", "sip:h:", "sip:h:99999", "sip:[::1]:5", "sip:h i", "sip:"):
+            with self.assertRaises(ValueError):
+                await address_of(bad)
 
 
 class BridgeTest(unittest.IsolatedAsyncioTestCase):
