@@ -175,8 +175,11 @@ typedef struct sip_ua_texts {
 enum {
     SIP_UA_DROP = 3,              /* the datagram of `place` was dropped */
     SIP_UA_NOTICE_REQUEST = 4,    /* a request to answer: method, local tag, remote tag, body */
-    SIP_UA_NOTICE_RESPONSE = 5,   /* status, local tag, remote tag, body. Tags have the spelling of
-                                     the message: compare them without case */
+    SIP_UA_NOTICE_RESPONSE = 5,   /* status (also 100), local tag, remote tag, body; the reason
+                                     phrase by sip_ua_start_line. Tags have the spelling of the
+                                     message: compare them without case. The id is that of your
+                                     command; for a PRACK that went out by itself, that of the
+                                     response that it acknowledges */
     SIP_UA_NOTICE_ACK = 6,        /* the ACK of a 2xx: body */
     SIP_UA_NOTICE_PRACK = 7,      /* rseq, body */
     SIP_UA_NOTICE_TIMEOUT = 8,    /* no response to INVITE, no final one to others, or no ACK of
@@ -184,7 +187,8 @@ enum {
     SIP_UA_NOTICE_FAILED = 9,     /* a send failed */
     SIP_UA_NOTICE_NO_ACK = 10,    /* no ACK of a 2xx came in time */
     SIP_UA_NOTICE_NO_PRACK = 11,  /* no PRACK came in time */
-    SIP_UA_NOTICE_CANCEL = 12,    /* the peer cancelled the INVITE; the agent sent 487 */
+    SIP_UA_NOTICE_CANCEL = 12,    /* the peer cancelled the INVITE; the agent sent 487. The end of
+                                     its early dialog follows */
     SIP_UA_NOTICE_ENDED = 13,     /* a dialog ended: local tag, remote tag */
     SIP_UA_NOTICE_REFUSED = 14    /* a command was refused: command, refusal */
 };
@@ -255,7 +259,8 @@ typedef struct sip_ua_asked {
 enum {
     SIP_UA_FIELD_CALL_ID = 1,     /* empty, or with a space, a tab or a line end */
     SIP_UA_FIELD_METHOD = 2,      /* not a token */
-    SIP_UA_FIELD_REQUEST_URI = 3, /* empty, or with a space, a tab, a line end, `<`, `>` or `"` */
+    SIP_UA_FIELD_REQUEST_URI = 3, /* empty, without a scheme, or with a space, a tab, a line end,
+                                     `<`, `>` or `"` */
     SIP_UA_FIELD_FROM = 4,        /* the same */
     SIP_UA_FIELD_TO = 5,          /* the same */
     SIP_UA_FIELD_LOCAL_TAG = 6,   /* neither empty nor a token */
@@ -268,8 +273,8 @@ enum {
 };
 
 /* An initial INVITE. It is sent to `address`. `request_uri`, `from` and `to` are URIs, without tags
- * and display names. `requires_100rel` overrides `supports_100rel`. For all commands: a body has the
- * type application/sdp, unless a header Content-Type says another one. */
+ * and display names. `requires_100rel` overrides `supports_100rel`. For all commands: a body has
+ * the type application/sdp, unless a header Content-Type says another one. */
 typedef struct sip_ua_invite_fields {
     sip_ua_bytes call_id;
     sip_ua_address address;
@@ -849,8 +854,8 @@ static inline uint32_t sip_ua_abandon_dialog(sip_ua *agent,
 
 /* Says that the send with this index, of the last round, failed. Except for the ACK of a 2xx, that
  * is an event of the next round. Call it before that round, if the socket refuses a send, or if the
- * send is longer than SIP_UA_LARGEST_DATAGRAM. Faults: SIP_UA_NO_SEND, SIP_UA_TOO_MANY_EVENTS,
- * SIP_UA_NO_MEMORY. */
+ * send is longer than SIP_UA_LARGEST_DATAGRAM. Faults: SIP_UA_NO_SEND (the output is no send),
+ * SIP_UA_TOO_MANY_EVENTS (then the transaction ends by its timers), SIP_UA_NO_MEMORY. */
 static inline uint32_t sip_ua_failed(sip_ua *agent, size_t output)
 {
     if (agent == NULL)
@@ -883,8 +888,8 @@ static inline uint8_t *sip_ua_raw_room(uint8_t *buffer, uint8_t *otherwise)
 /* Takes the next output of the last round, by its fields, and writes its texts to the buffer. The
  * kind SIP_UA_NOTHING says that none is left. No text ends in a zero byte. Faults: SIP_UA_NO_ROOM,
  * if the texts are longer than `room`: the output is filled in and stays, and sip_ua_texts_len says
- * how much room it needs; SIP_UA_NO_MEMORY: the output stays, and the struct says nothing of it (its
- * kind is SIP_UA_NOTHING). */
+ * how much room it needs; SIP_UA_NO_MEMORY: the output stays, and the struct says nothing of it
+ * (its kind is SIP_UA_NOTHING). */
 static inline uint32_t sip_ua_next(sip_ua *agent, sip_ua_typed_output *output, uint8_t *buffer,
                                    size_t room)
 {
@@ -907,7 +912,9 @@ static inline uint32_t sip_ua_next_line(sip_ua *agent, sip_ua_output *output, ui
 }
 
 /* Skips the next output of the last round: takes it without its text, such as one that had no room.
- * Does nothing if none is left. For a send, call sip_ua_failed too, since it didn't go out. */
+ * Does nothing if none is left. For a send, call sip_ua_failed too, since it didn't go out; the
+ * index of one that gave SIP_UA_NO_MEMORY is the number of outputs taken before it. A request whose
+ * notice is skipped stays held. */
 static inline uint32_t sip_ua_skip(sip_ua *agent)
 {
     if (agent == NULL)
@@ -1001,8 +1008,8 @@ static inline uint32_t sip_ua_datagram_at(sip_ua *agent, uint32_t place, sip_ua_
     return sip_ua_raw_datagram_at(agent, place, arrival, sip_ua_raw_room(buffer, &otherwise), room);
 }
 
-/* What the request with this place in the last round says of itself. `is_there` is false if there is
- * none. Fault: SIP_UA_NO_MEMORY. */
+/* What the request with this place in the last round says of itself. `is_there` is false if there
+ * is none. Fault: SIP_UA_NO_MEMORY. */
 static inline uint32_t sip_ua_request_traits_at(sip_ua *agent, uint32_t place,
                                                 sip_ua_request_traits *traits)
 {
@@ -1041,8 +1048,9 @@ static inline uint32_t sip_ua_header_value(sip_ua *agent, uint32_t place, const 
 /* The header line with this number, from 0, of that datagram, in the order in which they came.
  * `is_there` is false if there is none. Its name as it came and, directly after it, its value,
  * unfolded and without white space around it, are written to the buffer. Faults: SIP_UA_NO_ROOM, if
- * `name_len` and `len` together are more than `room`; SIP_UA_NO_MEMORY. Each call reads the datagram
- * from its beginning, and a peer can send thousands of lines: sip_ua_header_lines gives all. */
+ * `name_len` and `len` together are more than `room`; SIP_UA_NO_MEMORY. Each call reads the
+ * datagram from its beginning, and a peer can send thousands of lines: sip_ua_header_lines gives
+ * all. */
 static inline uint32_t sip_ua_header_line(sip_ua *agent, uint32_t place, size_t number,
                                           sip_ua_header_lengths *line, uint8_t *buffer,
                                           size_t room)
@@ -1081,10 +1089,10 @@ static inline uint32_t sip_ua_header_lines(sip_ua *agent, uint32_t place, size_t
     return sip_ua_raw_header_lines(agent, place, len, sip_ua_raw_room(buffer, &otherwise), room);
 }
 
-/* The address with this number, from 0, in the value of a Contact, a Route, a Record-Route or a header
- * of their form, such as Refer-To, and the value of its parameter with this name, in any case (may
- * be NULL). `is_there` is false if the value has no such form or address. The texts are written to
- * the buffer. Faults: SIP_UA_NO_ROOM, if the lengths together are more than `room`;
+/* The address with this number, from 0, in the value of a Contact, a Route, a Record-Route or a
+ * header of their form, such as Refer-To, and the value of its parameter with this name, in any
+ * case (may be NULL). `is_there` is false if the value has no such form or address. The texts are
+ * written to the buffer. Faults: SIP_UA_NO_ROOM, if the lengths together are more than `room`;
  * SIP_UA_NO_MEMORY. */
 static inline uint32_t sip_ua_address_in(sip_ua_bytes value, size_t number, const char *parameter,
                                          sip_ua_address_lengths *lengths, uint8_t *buffer,
@@ -1127,8 +1135,8 @@ static inline size_t sip_ua_unquote(uint8_t *text, size_t len)
 }
 
 /* The lines of the last round, as a session file has them behind its head (docs/FORMATS.md); none
- * before the first round. Appended to a journal before the round's outputs go out, they let an agent
- * go on in another process: see sip_ua_resume. They are written to the buffer. Faults:
+ * before the first round. Appended to a journal before the round's outputs go out, they let an
+ * agent go on in another process: see sip_ua_resume. They are written to the buffer. Faults:
  * SIP_UA_NO_ROOM, if `len` is more than `room`; SIP_UA_NO_MEMORY. */
 static inline uint32_t sip_ua_round_text(sip_ua *agent, size_t *len, uint8_t *buffer, size_t room)
 {
@@ -1139,11 +1147,11 @@ static inline uint32_t sip_ua_round_text(sip_ua *agent, size_t *len, uint8_t *bu
 }
 
 /* Runs the first round of a text again, as sip_ua_round_text gave it, without outputs. The text may
- * go on with more rounds: call it again behind the `len` bytes that it took, until none is left. The
- * agent is a new one, with the configuration of the journal's; it goes on as that one did. If the
- * process died while it wrote the last round, its outputs didn't go out. So first cut the journal
- * behind its last line feed: a line without one would count as one of the round before. Then, where
- * the last round gives SIP_UA_BAD_LINE, cut the journal before it. Faults: SIP_UA_BUSY;
+ * go on with more rounds: call it again behind the `len` bytes that it took, until none is left.
+ * The agent is a new one, with the configuration of the journal's; it goes on as that one did. If
+ * the process died while it wrote the last round, its outputs didn't go out. So first cut the
+ * journal behind its last line feed: a line without one would count as one of the round before.
+ * Then, where the last round gives SIP_UA_BAD_LINE, cut the journal before it. Faults: SIP_UA_BUSY;
  * SIP_UA_BAD_LINE; SIP_UA_NO_MEMORY; those of sip_ua_run about the round. */
 static inline uint32_t sip_ua_resume(sip_ua *agent, const void *text, size_t len,
                                      sip_ua_resumed *resumed)
