@@ -93,7 +93,7 @@ ALLOW = ("Allow", "INVITE, ACK, CANCEL, OPTIONS, BYE, PRACK")
 # The responses to requests that another process left.
 _LEFT = {"INVITE": (480, "Temporarily Unavailable"), "BYE": (200, "OK")}
 
-_HOST = re.compile(r"sip:(?:[^@]*@)?([^][:;?>\s]+)(?::(\d{1,5}))?(?:[;?>]|\Z)", re.IGNORECASE)
+_HOST = re.compile(r"sip:(?:[^@]*@)?([^\[\]:;?>\s]+)(?::(\d{1,5}))?(?:[;?>]|\Z)", re.IGNORECASE)
 MOST_PORT = 65535
 _QUOTED = re.compile(r'"(?:[^"\\]|\\.)*"')
 _Handler = Callable[[Notice], None]
@@ -1050,7 +1050,7 @@ async def open_user_agent(
             kept.close()
         raise
     if kept is not None:
-        agent.endpoint.owns(kept)
+        agent.endpoint.close_also(kept)
         agent._end_left(held)
     ip, port = agent.endpoint.local
     agent.uri = uri or f"sip:{ip}:{port}"

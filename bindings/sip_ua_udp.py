@@ -101,7 +101,7 @@ class Endpoint(asyncio.DatagramProtocol):
         """Waits until the socket is closed: then its address is free."""
         await asyncio.shield(self._is_gone)
 
-    def owns(self, journal: FileJournal) -> None:
+    def close_also(self, journal: FileJournal) -> None:
         """Has `close` close this journal too."""
         self._opened = journal
 
@@ -230,7 +230,7 @@ async def open_endpoint(
         except BaseException:
             opened.close()
             raise
-        endpoint.owns(opened)
+        endpoint.close_also(opened)
         return endpoint
     udp = _bound(address)
     try:
