@@ -266,7 +266,12 @@ class Stream(Generic[_Item]):
 
 class Call:
     """A call, incoming or outgoing. `async for` gives its events from then on, Ended last; of a
-    call that has ended, Ended alone. While nobody reads them, requests of the peer are refused."""
+    call that has ended, Ended alone. While nobody reads them, requests of the peer are refused. Any
+    number of tasks may await `answered` and `ended` beside one that iterates; to cancel such a wait
+    leaves the call as it is.
+
+    `call_id` is its Call-ID, a str. That of an outgoing call changes when its INVITE goes again
+    after a challenge; `prefix` of `UserAgent.call` stays."""
 
     # The id of its INVITE.
     _id: Id
@@ -354,7 +359,9 @@ class Call:
         """Sends the ACK of a 2xx whose INVITE had no body: the 2xx has the offer, and the ACK the
         answer. Other ACKs go out by themselves; then, and after the end, this does nothing. To join
         two calls, make the first without an offer, the second with the first's, and give the
-        second's answer here, within 32 s of the first's 2xx (RFC 3725, section 4.1)."""
+        second's answer here, within 32 s of the first's 2xx (RFC 3725, section 4.1): then the first
+        may end itself by a BYE. If the second may ring longer, call the first with an inactive SDP,
+        and give it the second's by a re-INVITE (`request`)."""
         if self._owes_ack and self._tags is not None:
             self._owes_ack = False
             self._agent.ask(Ack(self.call_id, *self._tags, answer, headers))
@@ -463,9 +470,10 @@ class Call:
 class OutgoingCall(Call):
     """A call that `UserAgent.call` started."""
 
-    def __init__(self, agent: "UserAgent", invite: Invite):
+    def __init__(self, agent: "UserAgent", invite: Invite, prefix: str):
         super().__init__(agent, invite.call_id)
         self._invite = invite
+        self._prefix = prefix
         self._statuses: List[int] = []
         self._is_inviting = True
         self._id = self._send()
@@ -529,7 +537,7 @@ class OutgoingCall(Call):
             self._take_answer(tags, message)
         elif not self._is_left and self._takes_challenge(notice.status, message):
             self._agent.forget(self._id)
-            self.call_id = token_hex(8)
+            self.call_id = self._prefix + token_hex(8)
             self._id = self._send()
         else:
             self._fail(Ended(FinalResponse(notice.status, reason, message)))
@@ -694,8 +702,9 @@ class UserAgent:
     `uri` is the user's own, which From says. `proxy` is where all requests go, otherwise to the
     address in their URI. The username and the password answer challenges. `on_request` is called
     with each request outside of calls; without it, they are refused. A peer's call gets 503 while
-    there are `most_calls`, one's own among them; `call` has no limit. With a journal, `left` has
-    the Call-IDs of the calls that a process which died left: they are ended."""
+    there are `most_calls`, one's own among them; `call` has no limit. With a journal, `left`, a set
+    of str, has the Call-IDs of the calls that a process which died left. Their BYEs and CANCELs go
+    out in the first round; what becomes of these isn't told, but `close` waits for it."""
 
     endpoint: Endpoint
     uri: str
@@ -739,15 +748,17 @@ class UserAgent:
         address: Optional[Address] = None,
         from_uri: Optional[str] = None,
         supports_100rel: bool = False,
+        prefix: str = "",
     ) -> OutgoingCall:
         """Starts a call: sends an INVITE to the address, else to the proxy or the address in the
         URI. Without an offer, the 2xx has one, and `acknowledge` answers it; then leave out
-        `supports_100rel`. Raises as `address_of`, and sip_ua.Error if a field is bad: then no call
-        has begun."""
+        `supports_100rel`. Its Call-IDs begin with the prefix, so that you know the call in `left`.
+        Raises as `address_of`, and sip_ua.Error if a field is bad: then no call has begun."""
         to = address or self.proxy or await address_of(uri)
         uris = (uri, from_uri or self.uri, uri)
-        invite = Invite(token_hex(8), to, *uris, offer, tuple(headers), supports_100rel)
-        call = OutgoingCall(self, invite)
+        call_id = prefix + token_hex(8)
+        invite = Invite(call_id, to, *uris, offer, tuple(headers), supports_100rel)
+        call = OutgoingCall(self, invite, prefix)
         self.calls.add(call)
         return call
 

@@ -74,9 +74,9 @@ class FileJournal:
         self._file = os.open(path, os.O_RDWR | os.O_CREAT | os.O_APPEND, 0o600)
         try:
             fcntl.flock(self._file, fcntl.LOCK_EX | fcntl.LOCK_NB)
-        except OSError:
+        except OSError as error:
             os.close(self._file)
-            raise
+            raise OSError(error.errno, "the journal is open already", path) from None
 
     def read(self) -> bytes:
         """All bytes of the file."""

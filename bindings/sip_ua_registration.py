@@ -5,7 +5,8 @@
             ..
 
 It answers challenges by Digest, asks for longer after a 423, refreshes the binding by what the
-registrar granted, tries again after a failure, and unregisters at the end of the `async with`.
+registrar granted, tries again if a refresh fails, and unregisters at the end of the `async with`. To
+end all: hang up the calls, await their `ended`, leave the registration, then the agent.
 """
 
 import asyncio

@@ -383,6 +383,7 @@ class LeftTest(unittest.IsolatedAsyncioTestCase):
             two = await open_user_agent(LIBRARY, ANY_PORT)
             pairs = [(one, two), (one, two), (two, one), (two, one)]
             calls = [await self.ringing(*pair) for pair in pairs]
+            self.assertTrue(calls[0][1].call_id.startswith("a-"))
             for outgoing, incoming in (calls[0], calls[2]):
                 incoming.answer(ANSWER)
                 await soon(outgoing.answered())
@@ -418,7 +419,7 @@ class LeftTest(unittest.IsolatedAsyncioTestCase):
     async def ringing(self, one: UserAgent, two: UserAgent) -> Tuple[OutgoingCall, IncomingCall]:
         coming = asyncio.ensure_future(next_call(two))
         await asyncio.sleep(0)
-        outgoing = await one.call(two.uri, OFFER)
+        outgoing = await one.call(two.uri, OFFER, prefix="a-")
         incoming = await soon(coming)
         incoming.ring()
         async for event in outgoing:
@@ -594,7 +595,7 @@ class ScriptedTest(unittest.IsolatedAsyncioTestCase):
             return [response(message, "200 OK", "t", peer.contact())]
 
         peer, uri = await self.peer(answer)
-        call = await self.agent.call(uri, OFFER)
+        call = await self.agent.call(uri, OFFER, prefix="p-")
         await soon(call.answered())
         call.hang_up()
         await soon(call.ended())
@@ -602,6 +603,8 @@ class ScriptedTest(unittest.IsolatedAsyncioTestCase):
         self.assertEqual(peer.methods, ["INVITE", "ACK", "INVITE", "ACK", "BYE"])
         call_ids = [header(request, "Call-ID") for request in peer.requests]
         self.assertNotEqual(call_ids[0], call_ids[2])
+        self.assertEqual(call_ids[2], call.call_id)
+        self.assertTrue(all(call_id.startswith("p-") for call_id in call_ids))
         self.assertIn("nc=00000002", header(peer.requests[4], "Proxy-Authorization"))
 
     async def test_a_wrong_password(self) -> None:
