@@ -176,10 +176,11 @@ enum {
     SIP_UA_DROP = 3,              /* the datagram of `place` was dropped */
     SIP_UA_NOTICE_REQUEST = 4,    /* a request to answer: method, local tag, remote tag, body */
     SIP_UA_NOTICE_RESPONSE = 5,   /* status (also 100), local tag, remote tag, body; the reason
-                                     phrase by sip_ua_start_line. Tags have the spelling of the
-                                     message: compare them without case. The id is that of your
-                                     command; for a PRACK that went out by itself, that of the
-                                     response that it acknowledges */
+                                     phrase by sip_ua_start_line; reliable if it has an RSeq. Tags
+                                     have the spelling of the message: compare them without case.
+                                     The id is that of your command; for a PRACK that went out by
+                                     itself, that of the response that it acknowledges. The end of
+                                     a dialog that it causes follows */
     SIP_UA_NOTICE_ACK = 6,        /* the ACK of a 2xx: body */
     SIP_UA_NOTICE_PRACK = 7,      /* rseq, body */
     SIP_UA_NOTICE_TIMEOUT = 8,    /* no response to INVITE, no final one to others, or no ACK of
@@ -775,7 +776,7 @@ static inline uint32_t sip_ua_respond(sip_ua *agent, const sip_ua_respond_fields
                               told);
 }
 
-/* Sends the ACK of the dialog's oldest 2xx that still needs one. */
+/* Sends the ACK of the dialog's oldest 2xx that still needs one. Its body may be empty. */
 static inline uint32_t sip_ua_ack(sip_ua *agent, const sip_ua_body_fields *fields,
                                   sip_ua_asked *asked)
 {
@@ -811,7 +812,7 @@ static inline uint32_t sip_ua_prack(sip_ua *agent, const sip_ua_body_fields *fie
                             sip_ua_raw_at(fields->body), fields->body.len, told);
 }
 
-/* Cancels an INVITE that you sent. */
+/* Cancels an INVITE that you sent; also a re-INVITE, whose dialog stays. */
 static inline uint32_t sip_ua_cancel(sip_ua *agent, const sip_ua_cancel_fields *fields,
                                      sip_ua_asked *asked)
 {
@@ -823,7 +824,7 @@ static inline uint32_t sip_ua_cancel(sip_ua *agent, const sip_ua_cancel_fields *
 }
 
 /* Gives up a request that you sent, such as an INVITE whose peer is dead: it is no longer held, its
- * early dialogs end, and nothing more is sent or told of it. */
+ * early dialogs end (NOTICE_ENDED), and nothing more is sent or told of it. */
 static inline uint32_t sip_ua_abandon_request(sip_ua *agent,
                                               const sip_ua_abandon_request_fields *fields,
                                               sip_ua_asked *asked)
@@ -835,7 +836,7 @@ static inline uint32_t sip_ua_abandon_request(sip_ua *agent,
                                       fields->id.round, fields->id.place, told);
 }
 
-/* Gives up a dialog: it ends, and nothing is sent. */
+/* Gives up a dialog: it ends (NOTICE_ENDED), and nothing is sent. */
 static inline uint32_t sip_ua_abandon_dialog(sip_ua *agent,
                                              const sip_ua_abandon_dialog_fields *fields,
                                              sip_ua_asked *asked)
