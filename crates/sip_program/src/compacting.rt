@@ -10,7 +10,7 @@ use sip_message::Spread;
 use sip_stream::StreamFault;
 use sip_udp::UaFault;
 use std::alloc::Global;
-use std::fs::{self, File, OpenOptions};
+use std::fs::{self, File, OpenFile, OpenOptions};
 use std::io::{self, Write};
 use std::rt::Files;
 use std::thread::Threads;
@@ -42,13 +42,13 @@ pub(crate) fn compact_by<'a, T: Threads + Host, E: Write>(
     );
     match compacted {
         Ok(Some(compacted)) => {
-            let end = created(rt, words)?.write_all(&compacted.text);
+            let end = created(rt, words, &journal)?.write_all(&compacted.text);
             written(rt, end, words)
         }
         Ok(None) => {
             let _ = writeln!(errors, "ua: no shorter journal was found");
             let mut whole = opened(rt, words)?;
-            let copied = io::copy(&mut whole, &mut created(rt, words)?);
+            let copied = io::copy(&mut whole, &mut created(rt, words, &journal)?);
             written(rt, copied.map(|_| ()), words)
         }
         Err(fault) => Err(failure_of(fault)),
@@ -65,14 +65,28 @@ fn opened<'a, T: Journals>(rt: &T, words: CompactWords<'a>) -> Result<File, Fail
     }
 }
 
-// A new file: none is overwritten.
-fn created<'a, T: Files>(rt: &T, words: CompactWords<'a>) -> Result<T::File, Failure<'a>> {
+// A new file, with the permissions of the journal: none is overwritten.
+fn created<'a, T: Journals>(
+    rt: &T,
+    words: CompactWords<'a>,
+    journal: &File,
+) -> Result<File, Failure<'a>> {
     let mut options = OpenOptions::new();
     options.write(true).create_new(true);
-    match options.open(rt, words.into) {
+    let made = match rt.open_journal(&options, words.into) {
+        Ok(file) => with_permissions(file, journal),
+        Err(error) => Err(error),
+    };
+    match made {
         Ok(file) => Ok(file),
         Err(error) => Err(bad_file(UaFault::Output, "--into", words.into, error)),
     }
+}
+
+// The file, with the permissions of another one: a journal has secrets.
+fn with_permissions(file: File, other: &File) -> io::Result<File> {
+    file.set_permissions(other.metadata()?.permissions())?;
+    Ok(file)
 }
 
 // How the writing of the new file ended. A part of a journal doesn't stay.
