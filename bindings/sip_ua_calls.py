@@ -331,8 +331,9 @@ class Call:
     async def request(self, method: str, body: bytes = b"", headers: Headers = ()) -> FinalResponse:
         """Sends a request in the call, such as INFO or a re-INVITE, and returns its final response.
         481 and 408 end the call (RFC 3261, section 12.2.1.2). If the call ends first, the request
-        is given up, and this returns 481. A peer may answer a re-INVITE by a 100 alone: bound that
-        by `asyncio.wait_for`. To end the call, use `hang_up`."""
+        is given up, and this returns 481; if this is cancelled, it is given up, too. A peer may
+        answer a re-INVITE by a 100 alone: bound that by `asyncio.wait_for`. To end the call, use
+        `hang_up`."""
         if self._tags is None or not self.is_up:
             return FinalResponse(481, "Call/Transaction Does Not Exist")
         call_id, tags = self.call_id, self._tags
@@ -356,12 +357,14 @@ class Call:
         return response
 
     def acknowledge(self, answer: bytes = b"", headers: Headers = ()) -> None:
-        """Sends the ACK of a 2xx whose INVITE had no body: the 2xx has the offer, and the ACK the
-        answer. Other ACKs go out by themselves; then, and after the end, this does nothing. To join
-        two calls, make the first without an offer, the second with the first's, and give the
-        second's answer here, within 32 s of the first's 2xx (RFC 3725, section 4.1): then the first
-        may end itself by a BYE. If the second may ring longer, call the first with an inactive SDP,
-        and give it the second's by a re-INVITE (`request`)."""
+        """Sends the ACK of a 2xx whose INVITE, or re-INVITE by `request`, had no body: the 2xx has
+        the offer, and the ACK the answer. Other ACKs go out by themselves; then, and after the end,
+        this does nothing.
+
+        To join two calls, make the first without an offer, the second with the first's, and give
+        the second's answer here, within 32 s of the first's 2xx (RFC 3725, section 4.1): then the
+        first may end itself by a BYE. If the second may ring longer, call the first with an
+        inactive SDP, and give it the second's by a re-INVITE (`request`)."""
         if self._owes_ack and self._tags is not None:
             self._owes_ack = False
             self._agent.ask(Ack(self.call_id, *self._tags, answer, headers))
@@ -678,7 +681,8 @@ def uri_of(value: str) -> str:
 async def address_of(uri: str) -> Address:
     """The address of a URI's host, by DNS if it is a name, and its port, 5060 without one. Raises
     ValueError if the URI isn't a `sip:` URI with a host that is a name or an IPv4 address, or its
-    port isn't a number up to 65,535, and OSError if the name isn't found."""
+    port isn't a number up to 65,535, and OSError if the name isn't found. What else the URI has
+    isn't checked: `call` may refuse it."""
     found = _HOST.match(uri)
     if found is None or int(found[2] or SIP_PORT) > MOST_PORT:
         raise ValueError(f"no address in {uri!r}")
@@ -703,8 +707,9 @@ class UserAgent:
     address in their URI. The username and the password answer challenges. `on_request` is called
     with each request outside of calls; without it, they are refused. A peer's call gets 503 while
     there are `most_calls`, one's own among them; `call` has no limit. With a journal, `left`, a set
-    of str, has the Call-IDs of the calls that a process which died left. Their BYEs and CANCELs go
-    out in the first round; what becomes of these isn't told, but `close` waits for it."""
+    of str, has the Call-IDs of the calls that a process which died left, or for which `close`
+    didn't wait long enough. Their BYEs and CANCELs go out in the first round; what becomes of these
+    isn't told, but `close` waits for it."""
 
     endpoint: Endpoint
     uri: str
@@ -753,7 +758,8 @@ class UserAgent:
         """Starts a call: sends an INVITE to the address, else to the proxy or the address in the
         URI. Without an offer, the 2xx has one, and `acknowledge` answers it; then leave out
         `supports_100rel`. Its Call-IDs begin with the prefix, so that you know the call in `left`.
-        Raises as `address_of`, and sip_ua.Error if a field is bad: then no call has begun."""
+        Raises as `address_of`, and sip_ua.Error if a field is bad: then, or if this is cancelled,
+        no call has begun."""
         to = address or self.proxy or await address_of(uri)
         uris = (uri, from_uri or self.uri, uri)
         call_id = prefix + token_hex(8)
@@ -805,12 +811,17 @@ class UserAgent:
         except asyncio.TimeoutError:
             pass
         self.endpoint.close()
+        await self.endpoint.wait_closed()
+
+    def _abandon(self) -> None:
+        """The endpoint is closed: ends what is awaited."""
+        self._is_closing = True
+        self._incoming.end()
         for call in list(self.calls):
             call._abandon()
         for response in self._responses:
             if not response.done():
                 response.set_result(FinalResponse(408, "Request Timeout"))
-        await self.endpoint.wait_closed()
 
     async def _idle(self) -> None:
         """Waits until no request waits for its end."""
@@ -920,10 +931,10 @@ class UserAgent:
         finally:
             self.forget(asked)
             self._responses.discard(response)
+            if not response.done() and not self.endpoint.is_closed:
+                self.ask(AbandonRequest(command.call_id, asked))
         if response.done():
             return response.result()
-        if not self.endpoint.is_closed:
-            self.ask(AbandonRequest(command.call_id, asked))
         return FinalResponse(481, "Call/Transaction Does Not Exist")
 
     # -- calls of a process that died
@@ -1048,7 +1059,10 @@ async def open_user_agent(
     `most_transactions` are as for `open_endpoint`. Without a URI, its own is that of its address.
 
     With the path of a journal (sip_ua_journal.py), calls that a process left when it died are ended
-    as soon as this one is open, by BYE, CANCEL or 480: `left` has their Call-IDs."""
+    as soon as this one is open, by BYE, CANCEL or 480: `left` has their Call-IDs. If the journal
+    can't be written, nothing more is sent: the endpoint closes (`endpoint.wait_closed` tells it),
+    `incoming` and all calls end, the loop's handler of exceptions gets the OSError, and the next
+    process ends the calls."""
     agent = UserAgent(proxy, username, password, on_request, most_calls)
     kept = FileJournal(journal) if journal is not None else None
     try:
@@ -1060,6 +1074,7 @@ async def open_user_agent(
         if kept is not None:
             kept.close()
         raise
+    agent.endpoint.on_closed = agent._abandon
     if kept is not None:
         agent.endpoint.close_also(kept)
         agent._end_left(held)

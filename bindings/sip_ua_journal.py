@@ -6,8 +6,9 @@ Each round stands in the journal before one of its datagrams is sent or one of i
 process that opens an endpoint with the journal of one that died holds what that one held. The
 notices of the last round are told again, since they may not have been acted upon; what that round
 sent may be lost, and retransmissions mend it. A journal is a session file, as `ua --journal` writes
-it (docs/FORMATS.md). It has the agent's seed: keep it secret. It only grows: while no process has
-it, `ua compact` makes it shorter.
+it (docs/FORMATS.md). It has the agent's seed: keep it secret. It only grows, by some 3 KB a call:
+while no process has it, `ua compact` makes it shorter. One of a process that was killed may be torn:
+open it once before that, which cuts it.
 """
 
 import errno

@@ -48,7 +48,8 @@ class Endpoint(asyncio.DatagramProtocol):
     """An agent with its socket. `open_endpoint` opens one, and `close` closes it. `agent` is the
     Agent. `local` is what Via and Contact say. `lost` counts the datagrams that had no room in a
     round or above `most_transactions`. `is_closed` says whether it was closed: by `close`, or since
-    its journal couldn't be written. Then `ask` raises Error NO_AGENT."""
+    its journal couldn't be written. Then `ask` raises Error NO_AGENT. `on_closed`, if it is set, is
+    called then."""
 
     def __init__(
         self,
@@ -72,6 +73,8 @@ class Endpoint(asyncio.DatagramProtocol):
         self._transport: Optional[asyncio.DatagramTransport] = None
         self._has_failed = False
         self.is_closed = False
+        # Called once it is closed.
+        self.on_closed: Optional[Callable[[], None]] = None
         self._is_gone: "asyncio.Future[None]" = self._loop.create_future()
         self._opened: Optional[FileJournal] = None
 
@@ -96,6 +99,8 @@ class Endpoint(asyncio.DatagramProtocol):
             self._opened.close()
         if self._transport is not None:
             self._transport.close()
+        if self.on_closed is not None:
+            self.on_closed()
 
     async def wait_closed(self) -> None:
         """Waits until the socket is closed: then its address is free."""

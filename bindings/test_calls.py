@@ -7,6 +7,7 @@ import os
 import tempfile
 import unittest
 from typing import Any, Awaitable, Callable, List, Tuple, TypeVar
+from unittest import mock
 
 from b2bua import B2bua
 from click_to_call import connect
@@ -26,7 +27,7 @@ from sip_ua_calls import (
     address_of,
     open_user_agent,
 )
-from sip_ua_journal import JournalError
+from sip_ua_journal import FileJournal, JournalError
 from sip_ua_registration import RegistrationFailed, granted_s, register
 from sip_ua_udp import open_endpoint
 
@@ -426,6 +427,49 @@ class LeftTest(unittest.IsolatedAsyncioTestCase):
             if isinstance(event, Progress):
                 break
         return outgoing, incoming
+
+    async def test_a_journal_that_cannot_be_written(self) -> None:
+        with tempfile.TemporaryDirectory() as room:
+            path = os.path.join(room, "journal")
+            one = await open_user_agent(LIBRARY, ANY_PORT, journal=path)
+            two = await open_user_agent(LIBRARY, ANY_PORT)
+            outgoing, incoming = await self.ringing(one, two)
+            other, _ = await self.ringing(two, one)
+            faults: List[Any] = []
+            loop = asyncio.get_running_loop()
+            loop.set_exception_handler(lambda _, context: faults.append(context["exception"]))
+            with mock.patch.object(FileJournal, "append", side_effect=OSError(28, "full")):
+                incoming.answer(ANSWER)
+                end = await soon(outgoing.ended())
+            loop.set_exception_handler(None)
+            self.assertEqual([fault.errno for fault in faults], [28])
+            self.assertEqual(end.response and end.response.status, 408)
+            outgoing.hang_up()
+            await soon(one.endpoint.wait_closed())
+            self.assertEqual([call async for call in one.incoming()], [])
+            again = await open_user_agent(LIBRARY, one.endpoint.local, journal=path)
+            self.assertEqual(again.left, {outgoing.call_id, other.call_id})
+            await soon(other.ended())
+            await soon(incoming.ended())
+            await again.close()
+            await two.close()
+
+    async def test_a_request_that_is_cancelled(self) -> None:
+        one = await open_user_agent(LIBRARY, ANY_PORT)
+        two = await open_user_agent(LIBRARY, ANY_PORT)
+        outgoing, incoming = await self.ringing(one, two)
+        incoming.answer(ANSWER)
+        await soon(outgoing.answered())
+        reading = asyncio.ensure_future(events_of(incoming))
+        with self.assertRaises(asyncio.TimeoutError):
+            await asyncio.wait_for(outgoing.request("INVITE", OFFER), 0.1)
+        outgoing.hang_up()
+        await soon(reading)
+        await asyncio.sleep(0.05)
+        # Nobody answered the re-INVITE, and nothing waits for that.
+        self.assertEqual(one._handlers, {})
+        await one.close()
+        await two.close()
 
     async def test_a_journal_that_open_endpoint_opened(self) -> None:
         with tempfile.TemporaryDirectory() as room:
