@@ -12,7 +12,8 @@
             call.answer(sdp)
 
 What goes out by itself: ACKs, a BYE to each further branch of a fork that answers, the answer to
-each challenge by Digest, the 200 of a BYE. When the `async with` ends, `close` ends all calls.
+each challenge by Digest, the 200 of a BYE. When the `async with` ends, `close` ends all calls. What
+takes headers or a body raises sip_ua.Error if a field is bad; then nothing is sent.
 sip_ua_registration.py registers a user agent. Use everything from the thread of the event loop.
 """
 
@@ -708,7 +709,7 @@ class UserAgent:
     with each request outside of calls; without it, they are refused. A peer's call gets 503 while
     there are `most_calls`, one's own among them; `call` has no limit. With a journal, `left`, a set
     of str, has the Call-IDs of the calls that a process which died left, or for which `close`
-    didn't wait long enough. Their BYEs and CANCELs go out in the first round; what becomes of these
+    didn't wait long enough. They end as by `hang_up`, from the first round on; what becomes of this
     isn't told, but `close` waits for it."""
 
     endpoint: Endpoint
@@ -757,7 +758,8 @@ class UserAgent:
     ) -> OutgoingCall:
         """Starts a call: sends an INVITE to the address, else to the proxy or the address in the
         URI. Without an offer, the 2xx has one, and `acknowledge` answers it; then leave out
-        `supports_100rel`. Its Call-IDs begin with the prefix, so that you know the call in `left`.
+        `supports_100rel`. Its Call-IDs begin with the prefix (without blanks), so that you know the
+        call in `left`.
         Raises as `address_of`, and sip_ua.Error if a field is bad: then, or if this is cancelled,
         no call has begun."""
         to = address or self.proxy or await address_of(uri)
@@ -1062,7 +1064,8 @@ async def open_user_agent(
     as soon as this one is open, by BYE, CANCEL or 480: `left` has their Call-IDs. If the journal
     can't be written, nothing more is sent: the endpoint closes (`endpoint.wait_closed` tells it),
     `incoming` and all calls end, the loop's handler of exceptions gets the OSError, and the next
-    process ends the calls."""
+    process ends the calls. Raises OSError if the address or the journal is taken, JournalError if
+    the journal is none, or of another address."""
     agent = UserAgent(proxy, username, password, on_request, most_calls)
     kept = FileJournal(journal) if journal is not None else None
     try:

@@ -7,8 +7,9 @@ process that opens an endpoint with the journal of one that died holds what that
 notices of the last round are told again, since they may not have been acted upon; what that round
 sent may be lost, and retransmissions mend it. A journal is a session file, as `ua --journal` writes
 it (docs/FORMATS.md). It has the agent's seed: keep it secret. It only grows, by some 3 KB a call:
-while no process has it, `ua compact` makes it shorter. One of a process that was killed may be torn:
-open it once before that, which cuts it.
+while no process has it, `ua compact` makes it shorter, also between a `close` and the next opening.
+One of a process that was killed may be torn. `open_endpoint` and `open_user_agent` cut it; `ua
+compact` refuses it. To go on from a journal takes some 0.1 s a MB.
 """
 
 import errno

@@ -54,7 +54,7 @@ class Registration:
     removes it. `response` is the registrar's last one, a FinalResponse; `contacts` are the bindings
     that it then held, a list of values of Contact; and `expires_s`, an int, is the time in s that
     it granted, 0 while nothing is registered. `async for` gives each final response from then on,
-    and ends with `unregister`."""
+    and ends with `unregister`. Where the registrar is silent, `response` stays what it was."""
 
     def __init__(
         self,
@@ -195,7 +195,7 @@ async def register(
     it stands. Raises RegistrationFailed otherwise. The registrar is at the address, else at the
     agent's proxy or in the URI's domain. The username is that of the URI, unless given; the
     contact, a URI without brackets, is that user at the agent's address. `expires_s` is what to ask
-    for, in s."""
+    for, in s. If this is cancelled, the request is given up."""
     registration = Registration(agent, uri, password, address, username, contact, expires_s)
     await registration.start()
     return registration
