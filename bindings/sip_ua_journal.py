@@ -9,7 +9,7 @@ sent may be lost, and retransmissions mend it. A journal is a session file, as `
 it (docs/FORMATS.md). It has the agent's seed: keep it secret. It only grows, by some 3 KB a call:
 while no process has it, `ua compact` makes it shorter, also between a `close` and the next opening.
 One of a process that was killed may be torn. `open_endpoint` and `open_user_agent` cut it; `ua
-compact` refuses it. To go on from a journal takes some 0.1 s a MB.
+compact` refuses it. To go on from a journal takes some 0.1 s a MB, and memory for all of it.
 """
 
 import errno
@@ -244,6 +244,8 @@ class Held:
     requests: Dict[Id, RequestNotice] = field(default_factory=dict)
     dialogs: Dict[Tuple[str, str, str], HeldDialog] = field(default_factory=dict)
     _answered: Dict[Id, str] = field(default_factory=dict)
+    # The dialogs that wait for the ACK of these INVITEs.
+    _waiting: Dict[Id, Tuple[str, str, str]] = field(default_factory=dict)
 
     def _take_round(self, commands: Iterable[Tuple[Id, bytes]], outputs: List[Output]) -> None:
         """Takes a round: its commands, other than those that were refused, and its outputs, in the
@@ -282,9 +284,9 @@ class Held:
         elif isinstance(output, CancelNotice):
             self.requests.pop(output.id, None)
         elif isinstance(output, (AckNotice, NoAckNotice)):
-            for name, dialog in self.dialogs.items():
-                if dialog.waits_for == output.id:
-                    self.dialogs[name] = dialog._replace(waits_for=None)
+            name = self._waiting.pop(output.id, None)
+            if name in self.dialogs:
+                self.dialogs[name] = self.dialogs[name]._replace(waits_for=None)
         elif isinstance(output, EndedNotice):
             self._leave(output.call_id, output.local_tag, output.remote_tag)
 
@@ -299,8 +301,12 @@ class Held:
             self._hold(call_id, notice.local_tag, notice.remote_tag, None)
 
     def _hold(self, call_id: str, local: str, remote: str, waits_for: Optional[Id]) -> None:
-        dialog = HeldDialog(call_id, local, remote, waits_for)
-        self.dialogs.setdefault((call_id, local.lower(), remote.lower()), dialog)
+        name = (call_id, local.lower(), remote.lower())
+        if name in self.dialogs:
+            return
+        self.dialogs[name] = HeldDialog(call_id, local, remote, waits_for)
+        if waits_for is not None:
+            self._waiting[waits_for] = name
 
     def _leave(self, call_id: str, local: str, remote: str) -> None:
         self.dialogs.pop((call_id, local.lower(), remote.lower()), None)
