@@ -428,6 +428,28 @@ class LeftTest(unittest.IsolatedAsyncioTestCase):
                 break
         return outgoing, incoming
 
+    async def test_many_calls_that_a_process_left(self) -> None:
+        with tempfile.TemporaryDirectory() as room:
+            path = os.path.join(room, "journal")
+            one = await open_user_agent(LIBRARY, ANY_PORT, journal=path)
+            two = await open_user_agent(LIBRARY, ANY_PORT)
+            calls = []
+            for _ in range(50):
+                outgoing, incoming = await self.ringing(one, two)
+                incoming.answer(ANSWER)
+                await soon(outgoing.answered())
+                await soon(incoming.answered())
+                calls.append(incoming)
+            one.endpoint.close()
+            await one.endpoint.wait_closed()
+            again = await open_user_agent(LIBRARY, one.endpoint.local, journal=path)
+            self.assertEqual(len(again.left), len(calls))
+            await again.close()
+            for call in calls:
+                end = await soon(call.ended())
+                self.assertEqual(end.message and end.message.start.method, "BYE")
+            await two.close()
+
     async def test_a_journal_that_cannot_be_written(self) -> None:
         with tempfile.TemporaryDirectory() as room:
             path = os.path.join(room, "journal")
