@@ -370,8 +370,10 @@ class Call:
 
         To join two calls, make the first without an offer, the second with the first's, and give
         the second's answer here, within 32 s of the first's 2xx (RFC 3725, section 4.1): then the
-        first may end itself by a BYE. If the second may ring longer, call the first with an
-        inactive SDP, and give it the second's by a re-INVITE (`request`)."""
+        first may end itself by a BYE; before its ACK it can't hang up. If the second may ring
+        longer, call the first with an inactive SDP, and the second without an offer; give the
+        second's offer to the first by a re-INVITE (`request`), and the first's answer to the second
+        here."""
         if self._owes_ack and self._tags is not None:
             self._owes_ack = False
             self._agent.ask(Ack(self.call_id, *self._tags, answer, headers))
