@@ -9,7 +9,8 @@ sent may be lost, and retransmissions mend it. A journal is a session file, as `
 it (docs/FORMATS.md). It has the agent's seed: keep it secret. It only grows, by some 3 KB a call:
 while no process has it, `ua compact` makes it shorter, also between a `close` and the next opening.
 One of a process that was killed may be torn. `open_endpoint` and `open_user_agent` cut it; `ua
-compact` refuses it: so open it, close, compact, and open the shorter one. To go on from a journal takes some 0.1 s a MB, and memory for all of it.
+compact` refuses it: so open it, close, compact, and open the shorter one. To go on from a journal
+takes some 0.1 s a MB, and memory for all of it.
 """
 
 import errno
