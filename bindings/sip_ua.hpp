@@ -355,6 +355,14 @@ public:
         return Datagram{came.from, bytes};
     }
 
+    /// Whether a send, with its datagram, would go to another IP address than the datagram that
+    /// caused it came from: leave it out (sip_ua_is_reflected).
+    bool is_reflected(const sip_ua_typed_output &output, std::string_view datagram) {
+        return datagram.size() == output.body_len
+            && sip_ua_is_reflected(&agent, &output,
+                                   reinterpret_cast<const std::uint8_t *>(datagram.data()));
+    }
+
     /// What the request with this place says of itself, if it is one.
     std::optional<sip_ua_request_traits> request_traits(std::uint32_t place) {
         sip_ua_request_traits traits{};

@@ -14,6 +14,7 @@ package sipua
 import "C"
 
 import (
+	"bytes"
 	"net/netip"
 	"strings"
 	"unsafe"
@@ -135,6 +136,21 @@ func (a *Agent) Run(moment uint64) ([]Output, error) {
 		}
 		outputs = append(outputs, output)
 	}
+}
+
+// IsReflected says whether an output of the last round is a send that would go to another IP address
+// than the datagram that caused it came from: a response that is sent again since its request came
+// again, from elsewhere. Leave it out. Otherwise whoever forged the source of a large request has
+// each small repeat send a large response to a victim.
+func (a *Agent) IsReflected(output Output) bool {
+	if output.Place == 0 || !output.To.IsValid() || !bytes.HasPrefix(output.Text, []byte("SIP/2.0 ")) {
+		return false
+	}
+	var cause C.sip_ua_arrival
+	at, size := bytesOf(a.buffer)
+	C.sip_ua_raw_datagram_at(&a.agent, C.uint32_t(output.Place), &cause, at, size)
+	ip := *(*[4]byte)(unsafe.Pointer(&cause.from.ip))
+	return bool(cause.is_there) && netip.AddrFrom4(ip) != output.To.Addr()
 }
 
 // RequestTraits are what a request says of itself: whether it is in a dialog, and whether it supports
