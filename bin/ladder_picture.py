@@ -74,7 +74,6 @@ def picture(names, rows):
             out.append(f'<circle class="{row.kind}" cx="{LEFT}" cy="{y}" r="3"/>')
         else:
             out.append(arrow(y, row, xs[row.way[0]], xs[row.way[1]]))
-        out.append(
-            f'<text class="{classes(row)}" x="{right}" y="{y + 4}">{escape(shown(row.label))}</text>'
-        )
+        label = escape(shown(row.label))
+        out.append(f'<text class="{classes(row)}" x="{right}" y="{y + 4}">{label}</text>')
     return out + ["</svg>"]
