@@ -1,9 +1,9 @@
 """A plain, slow model of the whole agent: what `ua replay` has to write for an event file.
 
-Run as `python3 crates/test_cases/agent.py < FILE.events > FILE.outputs`, with the option
+Run as `python3 tests/models/agent.py < FILE.events > FILE.outputs`, with the option
 `--session` for a session file; with the option `--cases` it says which stored cases of a replay
-differ from what it works out. A fault is told on standard
-error, and then nothing is written; the status is that of `ua`.
+differ from what it works out. A fault is told on standard error, and then nothing is written; the
+status is that of `ua`.
 
 It was written from the RFCs and from docs/FORMATS.md, and never from the code. `messages.py` has
 the messages, `tables.py` the transactions, `calls.py` the calls; here are the rounds and the files.
@@ -383,9 +383,39 @@ def repaired(text, is_session):
     return "".join(f"{line}\n" for line in lines)
 
 
+def streamed(text, is_session):
+    """What a replay round by round writes, and its fault, if it has one."""
+    try:
+        return replayed(text, is_session), None
+    except FileFault as fault:
+        status, told = fault.args
+    lines = text.split("\n")
+    starts = [at for at, line in enumerate(lines, 1) if line.startswith("round ")]
+    line = re.fullmatch(r"event file line (\d+)", told)
+    index = re.fullmatch(r"round (\d+): \w+", told)
+    if line:
+        starts = [at for at in starts if at <= int(line[1])]
+    if index:
+        starts = starts[: int(index[1]) + 1]
+    if not starts or not (line or index):
+        return "", (status, told)
+    if line:
+        told = f"round {len(starts) - 1}: round line {int(line[1]) - starts[-1] + 1}"
+    try:
+        before = "".join(f"{line}\n" for line in lines[: starts[-1] - 1])
+        return replayed(before, is_session), (status, told)
+    except FileFault as fault:
+        return "", fault.args  # of the lines before the first round
+
+
 def told_of(text, words):
     """The ending and the text of the file that stands beside a case with these words."""
     is_session = "--session" in words
+    if "--streamed" in words:
+        output, fault = streamed(text, is_session)
+        written = f"and writes\n{output}" if output else ""
+        return (".fault", "{}\nua: {}\n".format(*fault) + written) if fault else (
+            ".outputs", output)
     whole = repaired(text, is_session) if "--repair" in words else text
     left_out = len(text) - len(whole)
     said = f"ua: {left_out} bytes at the end left out\n" if left_out else ""
@@ -396,10 +426,17 @@ def told_of(text, words):
     return (".fault", f"0\n{said}and writes\n{output}") if said else (".outputs", output)
 
 
+def stored_events():
+    """The event files of all cases: those of the tests, and those that test_cases runs, too."""
+    top = Path(__file__).parents[2]
+    folders = [top / "tests/cases", top / "crates/test_cases/data"]
+    return sorted(path for folder in folders for path in folder.glob("*/*.events"))
+
+
 def compare_cases():
     """Says which stored cases differ, and how many were worked out."""
     cases, differ = 0, 0
-    for events in sorted((Path(__file__).parent / "data").glob("*/*.events")):
+    for events in stored_events():
         path = events.with_suffix(".args")
         words = path.read_text() if path.exists() else "replay\n"
         if path.exists() and (

@@ -1,7 +1,7 @@
-"""Writes the script of forty transactions, which the program of trials runs over and over.
+"""Writes the script of forty transactions, which the program test_cases runs over and over.
 
-Run as `python3 crates/test_cases/keys.py`. It writes `data/keys/forty-keys.events` and, as the
-model of `agent.py` works it out, `data/keys/forty-keys.outputs`; the same files each time.
+Run as `python3 tests/models/keys.py`. It writes `keys/forty-keys.events` in the data of test_cases
+and, as the model of `agent.py` works it out, `keys/forty-keys.outputs`; the same files each time.
 
 Of the forty, eight each are an OPTIONS, an INVITE and a MESSAGE that come, and an INVITE and an
 OPTIONS that go out; what becomes of each goes by its number. Repeats fall due, clients give up,
@@ -161,7 +161,8 @@ def main():
             invites(script, key)
         else:
             asks(script, key)
-    events = Path(__file__).parent / "data/keys/forty-keys.events"
+    data = Path(__file__).parents[2] / "crates/test_cases/data"
+    events = data / "keys/forty-keys.events"
     events.parent.mkdir(exist_ok=True)
     events.write_text(script.text())
     events.with_suffix(".outputs").write_text(replayed(script.text()))

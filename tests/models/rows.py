@@ -1,7 +1,7 @@
 """Writes the cases of the topic `rows`: event files, and the outputs that `ua` has to write.
 
-Run as `python3 crates/test_cases/rows.py`. It writes `crates/test_cases/data/rows/`, the same files
-each time, and prints what they meet of the tables; it ends in status 1 where they miss any of it.
+Run as `python3 tests/models/rows.py`. It writes `tests/cases/rows/`, the same files each time, and
+prints what they meet of the tables; it ends in status 1 where they miss any of it.
 It never reads what `ua` writes: `git diff` shows whether the files are still those of this program.
 
 A transaction is the list of all that came to it. What it says is found by folding its table, one
@@ -585,7 +585,7 @@ def missing(met):
 
 def main():
     met = Met(Counter(), Counter(), Counter(), Counter())
-    folder = Path(__file__).parent / "data" / "rows"
+    folder = Path(__file__).parents[1] / "cases/rows"
     folder.mkdir(exist_ok=True)
     for name, seed, events, *how in SCRIPTS:
         script = Script(seed, *how, met)

@@ -16,7 +16,7 @@ import subprocess
 import sys
 
 HERE = os.path.dirname(os.path.abspath(__file__))
-AGENT = os.path.join(HERE, "..", "..", "agent.py")
+AGENT = os.path.join(HERE, "..", "..", "models", "agent.py")
 ESCAPES = {"r": "\r", "n": "\n", "t": "\t", "s": " ", "\\": "\\"}
 
 
