@@ -1,9 +1,8 @@
 //! A journal: an agent on a pipe goes on from its rounds, and ends if it can't be written.
 
 use super::talks::bound;
-use sip_applications::agent;
 use sip_round::Config;
-use sip_udp::{Endpoint, Keeping, Past, RecordFile, UaFault};
+use sip_udp::{Endpoint, Keeping, Past, RecordFile, UaFault, agent};
 use std::alloc::Global;
 use std::io::{self, ErrorKind, Write};
 use std::net::Net;

@@ -1,9 +1,8 @@
 //! A peer of a listener: what it is answered, and what is shed.
 
 use super::talks::{bound, stand_in_order};
-use sip_applications::{AnswerBody, ListenPlan, listen_at};
 use sip_message::Addr;
-use sip_udp::Endpoint;
+use sip_udp::{AnswerBody, Endpoint, ListenPlan, listen_at};
 use std::alloc::Global;
 use std::net::{Ipv4Addr, Net, SocketAddrV4, UdpSocket};
 use std::process::Abort;

@@ -1,11 +1,10 @@
 //! Runs over UDP that are recorded. The replay of a record sends and tells what the run did.
 
 use super::talks::{Answers, Calls, Run, bound, called, listened, stand_in_order};
-use sip_applications::agent;
 use sip_files::{FileKind, ReplayFault, replay};
 use sip_message::{Addr, Spread};
 use sip_round::OpenGate;
-use sip_udp::Endpoint;
+use sip_udp::{Endpoint, agent};
 use std::alloc::{AllocError, Global};
 use std::io::{self, BufRead, BufReader, PipeReader, PipeWriter, Read, Write};
 use std::net::{Ipv4Addr, Net, SocketAddrV4, UdpSocket};

@@ -1,9 +1,8 @@
 //! Agents on loopback: what they tell, how they end, and what they record.
 
-use sip_applications::{CallPlan, ListenPlan, call_from, listen_at};
 use sip_message::{Addr, CallId, Uri};
 use sip_text::Text;
-use sip_udp::{Endpoint, UaFault};
+use sip_udp::{CallPlan, Endpoint, ListenPlan, UaFault, call_from, listen_at};
 use std::alloc::Global;
 use std::io::{self, Write};
 use std::net::{Ipv4Addr, Net, UdpSocket};

@@ -1,11 +1,13 @@
 //! The agent over UDP: inlets that fail, and calls on loopback.
 
 use super::talks::{Answers, Calls, bound, called, listened, names, stand_in_order};
-use sip_applications::{CallPlan, ListenPlan, call, call_from, listen, listen_at};
 use sip_desk::{Desk, NoMemory, Poster, open};
 use sip_message::Addr;
 use sip_round::Event;
-use sip_udp::{Division, Endpoint, Flags, Inlet, InputEnd, Received, UaFault, drops_in, hear};
+use sip_udp::{
+    CallPlan, Division, Endpoint, Flags, Inlet, InputEnd, ListenPlan, Received, UaFault, call,
+    call_from, drops_in, hear, listen, listen_at,
+};
 use std::alloc::Global;
 use std::io::{self, PipeReader, PipeWriter, Read};
 use std::net::{Ipv4Addr, SocketAddrV4, UdpSocket};
