@@ -17,11 +17,11 @@ use crate::words::{
     call_words, compact_words, listen_words,
 };
 use clap::ArgMatches;
-use sip_applications::{AnswerBody, CallPlan, ListenPlan, agent, call_from, listen_at};
 use sip_message::{Addr, CallId, Uri};
 use sip_text::Text;
 use sip_udp::{
-    Division, Endpoint, InputEnd, Keeping, Past, QueuedEnd, QueuedWriter, UaFault, Written,
+    AnswerBody, CallPlan, Division, Endpoint, InputEnd, Keeping, ListenPlan, Past, QueuedEnd,
+    QueuedWriter, UaFault, Written, agent, call_from, listen_at,
 };
 use std::alloc::{AllocError, Global};
 use std::fs::{self, File};

@@ -2,8 +2,10 @@ pub mod Admission
 pub mod Hearing
 pub mod KeepAlive
 pub mod LineEnd
+pub mod Piping
 pub mod Prepared
 pub mod Receiving
 pub mod Recording
 pub mod Sending
+pub mod Stations
 pub mod Telling

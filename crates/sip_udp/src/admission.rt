@@ -28,7 +28,7 @@ pub(crate) enum Load {
 
 /// How many transactions an agent is to hold, and how many datagrams were shed for that.
 #[derive(Clone, Copy)]
-pub struct Admission {
+pub(crate) struct Admission {
     most: Option<u32>,
     shed: u64,
 }
@@ -36,7 +36,7 @@ pub struct Admission {
 impl Admission {
     /// At a load of `most` transactions, requests that would begin one are shed, unless they are of
     /// a call that stands; at twice that load these are shed too. With `None` nothing is shed.
-    pub fn new(most: Option<u32>) -> Admission
+    pub(crate) fn new(most: Option<u32>) -> Admission
         ensures { result.most ≡ most }
     {
         Admission { most, shed: 0 }

@@ -30,7 +30,7 @@ pub(crate) struct Counts {
 
 /// The datagrams that were lost on their way in or out.
 #[derive(Clone, Copy, Default)]
-pub struct Losses {
+pub(crate) struct Losses {
     /// Those that couldn't be sent.
     pub unsent: u64,
     /// Those for which the line of the listener had no room.

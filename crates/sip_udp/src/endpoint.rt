@@ -79,7 +79,7 @@ impl<F> Endpoint<F> {
     /// How many agents it has, each at its own thread: as many as its division says. There is one
     /// alone if the run is recorded, or if the number of its first round leaves no room for those
     /// of others.
-    pub fn agents(&self) -> usize
+    pub(crate) fn agents(&self) -> usize
         ensures some { 0 < result }
         ensures most { result ≤ 16 }
         ensures room { 1 < result → self.now.config.first < 2 ^ 58 }
@@ -95,7 +95,7 @@ impl<F> Endpoint<F> {
     }
 
     /// Leaves a fair share of the limit of what is held, for one of so many agents.
-    pub fn share_limit(&mut self, agents: usize)
+    pub(crate) fn share_limit(&mut self, agents: usize)
         requires some { 0 < agents }
         requires most { agents ≤ 16 }
         ensures limit { self.new.held_limit
@@ -111,7 +111,7 @@ impl<F> Endpoint<F> {
     /// # Errors
     ///
     /// `Socket`, or `NoMemory`.
-    pub fn of_agent(&self, number: usize) -> Result<Endpoint<Vec<u8>>, UaFault>
+    pub(crate) fn of_agent(&self, number: usize) -> Result<Endpoint<Vec<u8>>, UaFault>
         requires number { number < 16 }
         requires room { self.now.config.first < 2 ^ 58 }
         ensures { IfOk result (λ own. own.config ≡ config_of self.now.config number) }

@@ -1,49 +1,64 @@
-//! A user agent over a UDP socket: a listener on a thread of its own, turns on the caller's, their
-//! records and counts. Each turn asks a user what to do: one of `sip_applications`.
+//! A user agent over UDP: its socket, turns, records, and the users that listen, call, or do what a
+//! pipe says. A listener reads datagrams on a thread of its own; the turns run on the caller's.
 #![tactic(auto)]
 
 mod admission;
+mod answer;
+mod answering;
+mod barrier;
 mod bell;
+mod call_plan;
+mod calling;
 mod counts;
 mod division;
 mod dropped;
 mod endpoint;
 mod fault;
+mod hang_up;
 mod inlet;
 mod input_end;
 mod line_end;
+mod listen_plan;
 mod listener;
+mod made_dialogs;
 mod notices;
+mod other_station;
 mod outcomes;
 mod outlet;
 mod past;
+mod pipe_input;
+mod piped;
 mod queued_writer;
 mod record;
 mod record_file;
+mod sdp;
 mod sending;
 mod sent;
+mod shared_plan;
 mod socket_table;
+mod station;
+mod stations;
+mod talk;
 mod time_limit;
 mod turns;
 mod user;
+mod waiting;
+mod wrong_word;
 
-pub use admission::Admission;
 pub use bell::Bell;
-pub use counts::Losses;
+pub use call_plan::CallPlan;
 pub use division::Division;
 pub use endpoint::Endpoint;
 pub use fault::UaFault;
 pub use inlet::{Inlet, Received};
 pub use input_end::InputEnd;
-pub use line_end::without;
+pub use listen_plan::{AnswerBody, ListenPlan};
 pub use listener::{Flags, Heard, hear};
-pub use outlet::{Asked, CountedSocket, Outlet};
+pub use outlet::{Asked, Outlet};
 pub use past::Past;
 pub use queued_writer::{QueuedEnd, QueuedWriter, Written};
-pub use record::{Keeping, Record};
+pub use record::Keeping;
 pub use record_file::RecordFile;
 pub use sending::send_all;
-pub use socket_table::{drops_in, system_drops};
-pub use time_limit::{TimeLeft, TimeLimit};
-pub use turns::{MOST_COLLECTED, Turns};
-pub use user::User;
+pub use socket_table::drops_in;
+pub use talk::{agent, call, call_from, listen, listen_at};

@@ -43,7 +43,7 @@ impl Flags {
     }
 
     /// The same. The turns wait at this bell.
-    pub fn with_bell(bell: Option<Arc<Bell>>) -> Flags {
+    pub(crate) fn with_bell(bell: Option<Arc<Bell>>) -> Flags {
         Flags {
             stop: AtomicBool::new(false),
             ended: AtomicBool::new(false),
@@ -52,14 +52,14 @@ impl Flags {
     }
 
     /// Wakes the turns.
-    pub fn ring(&self) {
+    pub(crate) fn ring(&self) {
         if let Some(bell) = &self.bell {
             bell.ring();
         }
     }
 
     /// Says that the listener has ended.
-    pub fn end(&self) {
+    pub(crate) fn end(&self) {
         self.ended.store(true, Ordering::SeqCst);
         self.ring();
     }

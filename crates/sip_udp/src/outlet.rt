@@ -41,7 +41,7 @@ impl Outlet for UdpSocket {
 
 /// A socket that counts the sends that failed.
 #[derive(Drop)]
-pub struct CountedSocket {
+pub(crate) struct CountedSocket {
     pub socket: UdpSocket,
     pub failed: u64,
 }

@@ -30,7 +30,7 @@ pub enum Keeping {
 
 /// Where a run is recorded, as long as no write fails.
 #[derive(Drop)]
-pub struct Record<F> {
+pub(crate) struct Record<F> {
     file: Option<F>,
     kind: FileKind,
     keeping: Keeping,
@@ -41,7 +41,7 @@ pub struct Record<F> {
 
 impl<F: RecordFile> Record<F> {
     /// A record in this kind of file, if there is a file.
-    pub fn new(kind: FileKind, file: Option<F>) -> Record<F> {
+    pub(crate) fn new(kind: FileKind, file: Option<F>) -> Record<F> {
         Record {
             file,
             kind,
@@ -52,7 +52,7 @@ impl<F: RecordFile> Record<F> {
     }
 
     /// A journal, of which this much was read.
-    pub fn journal(file: Option<F>, keeping: Keeping, past: &Past) -> Record<F> {
+    pub(crate) fn journal(file: Option<F>, keeping: Keeping, past: &Past) -> Record<F> {
         Record {
             file,
             kind: FileKind::Session,
@@ -96,7 +96,7 @@ impl<F: RecordFile> Record<F> {
     /// # Errors
     ///
     /// `Journal` if the record is needed and can't be written, or `NoMemory`.
-    pub fn begin<E: Write>(
+    pub(crate) fn begin<E: Write>(
         &mut self,
         alloc: Global,
         config: &Config,
@@ -119,7 +119,7 @@ impl<F: RecordFile> Record<F> {
     ///
     /// `Journal` if the record is needed and can't be written, or if it is a journal from which the
     /// round couldn't be read again, since its lines are too long; or `NoMemory`.
-    pub fn add<E: Write>(
+    pub(crate) fn add<E: Write>(
         &mut self,
         alloc: Global,
         round: &Round,

@@ -11,7 +11,7 @@ const TABLE: &str = "/proc/net/udp";
 
 /// How many datagrams for the socket at this address the system dropped, as a rule since the buffer
 /// of the socket was full. None if the system doesn't say, or memory ran out.
-pub fn system_drops<R: Files>(rt: &R, alloc: Global, local: Addr) -> Option<u64> {
+pub(crate) fn system_drops<R: Files>(rt: &R, alloc: Global, local: Addr) -> Option<u64> {
     let table = fs::read_to_string(&(rt, alloc), TABLE).ok()?;
     drops_in(alloc, &table, local).unwrap_or(None)
 }

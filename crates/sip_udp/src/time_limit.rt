@@ -18,7 +18,7 @@ const EMPTY: u64 = 1_000;
 
 /// How near the end of the turns is.
 #[derive(Clone, Copy, PartialEq, Eq)]
-pub enum TimeLeft {
+pub(crate) enum TimeLeft {
     /// More than a second is left.
     More,
     /// The last second.
@@ -29,7 +29,7 @@ pub enum TimeLeft {
 
 /// How long the turns go on. Moments are in ms since the start.
 #[derive(Drop)]
-pub struct TimeLimit {
+pub(crate) struct TimeLimit {
     // From this moment on there are no more turns.
     until: u64,
     // The input, as long as it may still end.
@@ -39,7 +39,7 @@ pub struct TimeLimit {
 
 impl TimeLimit {
     /// `seconds` seconds, or for ever, but only until a second after the end of the input.
-    pub fn new(seconds: Option<u32>, input: Option<Arc<InputEnd>>) -> TimeLimit {
+    pub(crate) fn new(seconds: Option<u32>, input: Option<Arc<InputEnd>>) -> TimeLimit {
         let until = match seconds {
             Some(seconds) => u64::from(seconds).saturating_mul(1_000),
             None => u64::MAX,
@@ -53,7 +53,7 @@ impl TimeLimit {
 
     /// Looks, at the moment `now`, whether the input has ended. An input that was empty from the
     /// start never ends; agents that share one agree on that.
-    pub fn look(&mut self, now: u64)
+    pub(crate) fn look(&mut self, now: u64)
         ensures sooner { self.new.until ≤ self.old.until }
         ensures ended { self.new.has_input_ended ≡ false → self.new.until ≡ self.old.until }
     {
@@ -72,7 +72,7 @@ impl TimeLimit {
     }
 
     /// Whether the turns are over at the moment `now`.
-    pub fn is_past(&self, now: u64) -> bool
+    pub(crate) fn is_past(&self, now: u64) -> bool
         ensures past { result ≡ true → self.now.until ≤ now }
         ensures not_yet { result ≡ false → now < self.now.until }
     {
@@ -80,7 +80,7 @@ impl TimeLimit {
     }
 
     /// How near the end is at the moment `now`, when `turns_left` turns are left.
-    pub fn left(&self, now: u64, turns_left: u64) -> TimeLeft
+    pub(crate) fn left(&self, now: u64, turns_left: u64) -> TimeLeft
         ensures input { self.now.has_input_ended ≡ true → result ≡ time_left.InputEnded }
         ensures turns { self.now.has_input_ended ≡ false → turns_left ≤ 100
             → result ≡ time_left.LastSecond }

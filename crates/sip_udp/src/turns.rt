@@ -33,7 +33,7 @@ use std::thread::{self, Threads};
 use std::time::{Clock, Duration, Instant};
 
 /// How many datagrams, or lines of a pipe, are collected at one time at most.
-pub const MOST_COLLECTED: usize = 1024;
+pub(crate) const MOST_COLLECTED: usize = 1024;
 
 /// How many events a round of a journal has at most. Each is a line of at most 2^20 bytes, the
 /// longest that a pipe takes; the lines of a whole round can be read again up to 2^26 bytes.
@@ -58,7 +58,7 @@ enum TurnEnd {
 
 /// An agent between two turns.
 #[derive(Drop)]
-pub struct Turns<U, F> {
+pub(crate) struct Turns<U, F> {
     alloc: Global,
     agent: Agent<Spread>,
     user: U,
@@ -89,7 +89,7 @@ pub struct Turns<U, F> {
 impl<U: User, F: RecordFile> Turns<U, F> {
     /// The turns before the first one, at the moment `base`. The head of a record that is new is
     /// written.
-    pub fn new<R: Clock, E: Write>(
+    pub(crate) fn new<R: Clock, E: Write>(
         rt: &R,
         alloc: Global,
         config: Config,
@@ -141,7 +141,7 @@ impl<U: User, F: RecordFile> Turns<U, F> {
     ///
     /// `JournalLines` for the lines of another round than the last; `Round` for a round that the
     /// agent refuses; `Journal`, `Output` or `NoMemory`.
-    pub fn resume<R: Threads + Clock + Sync, W: Write, E: Write>(
+    pub(crate) fn resume<R: Threads + Clock + Sync, W: Write, E: Write>(
         &mut self,
         rt: &R,
         mut past: Past,
@@ -244,7 +244,7 @@ impl<U: User, F: RecordFile> Turns<U, F> {
 
     /// Takes `turns` turns, or fewer if the time is over, the user wants no more, or the listener
     /// has ended.
-    pub fn take<R: Threads + Clock + Sync, O: Outlet, W: Write, E: Write>(
+    pub(crate) fn take<R: Threads + Clock + Sync, O: Outlet, W: Write, E: Write>(
         &mut self,
         rt: &R,
         turns: u64,
@@ -301,7 +301,7 @@ impl<U: User, F: RecordFile> Turns<U, F> {
     /// # Errors
     ///
     /// `NotAnswered` if it didn't.
-    pub fn verdict(&self) -> Result<(), UaFault> {
+    pub(crate) fn verdict(&self) -> Result<(), UaFault> {
         if self.user.is_satisfied() {
             Ok(())
         } else {
@@ -310,7 +310,7 @@ impl<U: User, F: RecordFile> Turns<U, F> {
     }
 
     /// Whether the counts are to be written.
-    pub fn is_counted(&self) -> bool {
+    pub(crate) fn is_counted(&self) -> bool {
         self.counts.is_some()
     }
 
@@ -319,7 +319,7 @@ impl<U: User, F: RecordFile> Turns<U, F> {
     /// # Errors
     ///
     /// Memory ran out.
-    pub fn add_counts<V, G>(&mut self, other: &Turns<V, G>) -> Result<(), AllocError> {
+    pub(crate) fn add_counts<V, G>(&mut self, other: &Turns<V, G>) -> Result<(), AllocError> {
         self.admission.add(other.admission);
         match (&mut self.counts, &other.counts) {
             (Some(counts), Some(more)) => counts.add_all(more),
@@ -328,7 +328,7 @@ impl<U: User, F: RecordFile> Turns<U, F> {
     }
 
     /// Writes the counts, if that was asked for, with these losses.
-    pub fn tell_counts<E: Write>(&mut self, losses: Losses, errors: &mut E) {
+    pub(crate) fn tell_counts<E: Write>(&mut self, losses: Losses, errors: &mut E) {
         if let Some(counts) = &mut self.counts {
             counts.losses = losses;
             counts.shed = self.admission.shed();

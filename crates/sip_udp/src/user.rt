@@ -7,7 +7,7 @@ use std::alloc::{AllocError, Global};
 use std::io::Write;
 
 /// Asks the agent's calls for things, and is told about them. Moments are in ms since the start.
-pub trait User: Drop {
+pub(crate) trait User: Drop {
     /// Adds what the user asks for before it is told anything.
     ///
     /// # Errors

@@ -1,3 +1,0 @@
-pub mod Fed
-pub mod Lined
-pub mod OwnUri

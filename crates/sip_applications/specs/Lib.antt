@@ -1,2 +1,0 @@
-pub mod Piping
-pub mod Stations

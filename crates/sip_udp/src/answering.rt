@@ -1,0 +1,277 @@
+//! The user of `listen`.
+
+use crate::answer::{answer, contact, progress, respond, ringing, unavailable};
+use crate::hang_up::nothing;
+use crate::made_dialogs::MadeDialogs;
+use crate::shared_plan::SharedPlan;
+use crate::time_limit::TimeLeft;
+use crate::user::User;
+use sip_message::{CallId, Content, Id};
+use sip_round::Event;
+use sip_text::Text;
+use sip_user::{Notice, Refusal, Reliability};
+use std::alloc::{AllocError, Global};
+use std::io::Write;
+use std::mem;
+use std::sync::Arc;
+
+/// An INVITE that isn't answered yet.
+#[derive(Drop)]
+struct Unanswered {
+    call_id: CallId,
+    id: Id,
+    /// Its body, if it has one.
+    offer: Text,
+    /// How many INVITEs came before it in its dialog.
+    before: u32,
+    /// The moment, in ms, at which it is answered; none while its 183 isn't acknowledged.
+    due: Option<u64>,
+}
+
+/// Answers INVITEs by its plan, re-INVITEs at once, BYE and OPTIONS with 200, and every other
+/// request with 501. A dialog without the ACK of its INVITE gets a BYE. When the input has ended,
+/// INVITEs that aren't answered yet get 480, and each dialog gets a BYE.
+#[derive(Drop)]
+pub(crate) struct Answering {
+    shared: Arc<SharedPlan>,
+    unanswered: Vec<Unanswered>,
+    dialogs: MadeDialogs,
+    is_leaving: bool,
+}
+
+impl Answering {
+    pub(crate) fn new(alloc: Global, shared: Arc<SharedPlan>) -> Answering {
+        Answering {
+            shared,
+            unanswered: Vec::new(alloc),
+            dialogs: MadeDialogs::new(alloc),
+            is_leaving: false,
+        }
+    }
+
+    // An INVITE came with these tags. The first is the agent's own. A re-INVITE in a dialog is
+    // answered at once.
+    fn invited(
+        &mut self,
+        alloc: Global,
+        now: u64,
+        mut invite: Unanswered,
+        tags: (&Text, &Text),
+        events: &mut Vec<Event>,
+    ) -> Result<(), AllocError> {
+        let Unanswered { call_id, id, .. } = &invite;
+        if self.is_leaving {
+            events.push(unavailable(alloc, call_id, *id)?)?;
+            return Ok(());
+        }
+        if let Some(before) = self.dialogs.re_invited(call_id, tags) {
+            invite.before = before;
+            events.push(self.final_answer(alloc, &invite)?)?;
+            return Ok(());
+        }
+        if self.shared.plan.makes_dialogs() {
+            self.dialogs.add(alloc, call_id, *id, tags)?;
+        }
+        if !self.shared.plan.reliable {
+            return self.alert(alloc, now, invite, events);
+        }
+        events.push(progress(alloc, call_id, *id)?)?;
+        self.unanswered.push(invite)?;
+        Ok(())
+    }
+
+    // Lets the phone ring, if the plan says so, or answers.
+    fn alert(
+        &mut self,
+        alloc: Global,
+        now: u64,
+        mut invite: Unanswered,
+        events: &mut Vec<Event>,
+    ) -> Result<(), AllocError> {
+        let Some(ring) = self.shared.plan.ring else {
+            events.push(self.final_answer(alloc, &invite)?)?;
+            return Ok(());
+        };
+        events.push(ringing(alloc, &invite.call_id, invite.id)?)?;
+        invite.due = Some(now.saturating_add(u64::from(ring)));
+        self.unanswered.push(invite)?;
+        Ok(())
+    }
+
+    // The ACK of an INVITE came.
+    fn confirm(
+        &mut self,
+        alloc: Global,
+        call_id: &CallId,
+        id: Id,
+        events: &mut Vec<Event>,
+    ) -> Result<(), AllocError> {
+        self.dialogs.confirm(call_id, id);
+        if self.is_leaving {
+            self.dialogs.hang_up(alloc, events)?;
+        }
+        Ok(())
+    }
+
+    // Answers waiting INVITEs with 480, and sends a BYE in each confirmed dialog.
+    fn leave(&mut self, alloc: Global, events: &mut Vec<Event>) -> Result<(), AllocError> {
+        self.is_leaving = true;
+        for one in mem::replace(&mut self.unanswered, Vec::new(alloc)) {
+            events.push(unavailable(alloc, &one.call_id, one.id)?)?;
+        }
+        self.dialogs.hang_up(alloc, events)
+    }
+
+    fn final_answer(&mut self, alloc: Global, invite: &Unanswered) -> Result<Event, AllocError> {
+        if invite.before == 0 && self.shared.plan.makes_dialogs() {
+            self.shared.count_answered();
+        }
+        let Unanswered { call_id, id, .. } = invite;
+        let status = self.shared.plan.status;
+        let content = self.content(alloc, invite)?;
+        respond(alloc, call_id, *id, status, Reliability::Plain, content)
+    }
+
+    // What a final response has besides its status: a 2xx has the body.
+    fn content(&self, alloc: Global, invite: &Unanswered) -> Result<Content, AllocError> {
+        if self.shared.plan.makes_dialogs() {
+            let Unanswered { before, offer, .. } = invite;
+            let body = self
+                .shared
+                .plan
+                .body
+                .to(alloc, self.shared.ip, *before, offer)?;
+            return Ok(Content::of_body(body));
+        }
+        match &self.shared.plan.contact {
+            Some(uri) => contact(alloc, uri.clone()?),
+            None => Ok(nothing(alloc)),
+        }
+    }
+
+    // The 183s of a call, or that of one INVITE, needn't be acknowledged any more.
+    fn go_on(
+        &mut self,
+        alloc: Global,
+        now: u64,
+        call_id: &CallId,
+        id: Option<Id>,
+        events: &mut Vec<Event>,
+    ) -> Result<(), AllocError> {
+        for one in mem::replace(&mut self.unanswered, Vec::new(alloc)) {
+            if one.due.is_none() && one.is_meant(call_id, id) {
+                self.alert(alloc, now, one, events)?;
+            } else {
+                self.unanswered.push(one)?;
+            }
+        }
+        Ok(())
+    }
+}
+
+impl Unanswered {
+    fn is_meant(&self, call_id: &CallId, id: Option<Id>) -> bool {
+        match id {
+            Some(id) => self.id == id,
+            None => self.call_id == *call_id,
+        }
+    }
+}
+
+impl User for Answering {
+    fn begin(&mut self, _alloc: Global, _events: &mut Vec<Event>) -> Result<(), AllocError> {
+        Ok(())
+    }
+
+    fn told(
+        &mut self,
+        alloc: Global,
+        now: u64,
+        notice: &Notice,
+        events: &mut Vec<Event>,
+    ) -> Result<(), AllocError> {
+        match notice {
+            Notice::Request {
+                call_id,
+                id,
+                method,
+                local_tag,
+                remote_tag,
+                body,
+            } => {
+                let method = method.as_slice();
+                if method == b"INVITE".as_slice() {
+                    let invite = Unanswered {
+                        call_id: call_id.clone()?,
+                        id: *id,
+                        offer: body.clone()?,
+                        before: 0,
+                        due: None,
+                    };
+                    let tags = (local_tag, remote_tag);
+                    return self.invited(alloc, now, invite, tags, events);
+                }
+                events.push(answer(alloc, call_id, *id, method)?)?;
+                Ok(())
+            }
+            Notice::Prack { call_id, id, .. } | Notice::NoPrack { call_id, id } => {
+                self.go_on(alloc, now, call_id, Some(*id), events)
+            }
+            Notice::Refused {
+                call_id,
+                refusal: Refusal::NotSupported,
+                ..
+            } => self.go_on(alloc, now, call_id, None, events),
+            Notice::Cancel { call_id, id } => {
+                self.unanswered.retain(|one| one.id != *id);
+                self.dialogs.remove_of(call_id, *id);
+                Ok(())
+            }
+            Notice::Ack { call_id, id, .. } => self.confirm(alloc, call_id, *id, events),
+            Notice::NoAck { call_id, id } => self.dialogs.give_up(alloc, call_id, *id, events),
+            Notice::Ended {
+                call_id,
+                local_tag,
+                remote_tag,
+            } => {
+                self.dialogs.remove(call_id, (local_tag, remote_tag));
+                Ok(())
+            }
+            _ => Ok(()),
+        }
+    }
+
+    fn turn<E: Write>(
+        &mut self,
+        alloc: Global,
+        now: u64,
+        left: TimeLeft,
+        events: &mut Vec<Event>,
+        _errors: &mut E,
+    ) -> Result<(), AllocError> {
+        if left == TimeLeft::InputEnded && !self.is_leaving {
+            return self.leave(alloc, events);
+        }
+        for one in mem::replace(&mut self.unanswered, Vec::new(alloc)) {
+            match one.due {
+                Some(due) if due <= now => {
+                    events.push(self.final_answer(alloc, &one)?)?;
+                }
+                _ => self.unanswered.push(one)?,
+            }
+        }
+        Ok(())
+    }
+
+    fn is_over(&self, _now: u64, holds: bool) -> bool {
+        self.is_leaving && !holds
+    }
+
+    fn is_eager(&self) -> bool {
+        false
+    }
+
+    fn is_satisfied(&self) -> bool {
+        self.shared.is_satisfied()
+    }
+}

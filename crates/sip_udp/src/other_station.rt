@@ -1,0 +1,108 @@
+//! The stations of the other agents of a listener, each on a thread of its own.
+
+ghost use Rattle.std.specs.Prelude.{◌≡◌, IfOk};
+ghost use Rattle.std.specs.List.{AllZip};
+ghost use Rattle.sip_desk.specs.Lines.{IsPosterOf};
+ghost use Rattle.sip_udp.specs.Stations.{KeepsItsLine};
+
+use crate::barrier::Barrier;
+use crate::endpoint::Endpoint;
+use crate::fault::UaFault;
+use crate::listener::Flags;
+use crate::station::Station;
+use crate::user::User;
+use sip_desk::Poster;
+use sip_round::Event;
+use std::alloc::{AllocError, Global};
+use std::io::Write;
+use std::thread::{self, Threads};
+use std::time::Clock;
+
+/// What another agent needs: an endpoint at the same socket, a user, and where it tells its
+/// notices.
+#[derive(Drop)]
+pub(crate) struct OtherAgent<U, O> {
+    pub(crate) endpoint: Endpoint<Vec<u8>>,
+    pub(crate) user: U,
+    pub(crate) notices: O,
+}
+
+/// The station of another agent, which is never recorded. What is wrong is kept until the end.
+#[derive(Drop)]
+pub(crate) struct OtherStation<U, O> {
+    pub(crate) station: Station<U, Vec<u8>>,
+    pub(crate) notices: O,
+    pub(crate) errors: Vec<u8>,
+}
+
+impl<U: User, O: Write + Drop> OtherStation<U, O> {
+    /// The station of this agent, and the poster of its line.
+    pub(crate) fn open<R: Threads + Clock + Sync>(
+        rt: &R,
+        alloc: Global,
+        agent: OtherAgent<U, O>,
+    ) -> Result<(OtherStation<U, O>, Poster<Event>), UaFault>
+        ensures { IfOk result (λ made. IsPosterOf made.0.station.desk made.1) }
+    {
+        let OtherAgent {
+            endpoint,
+            user,
+            mut notices,
+        } = agent;
+        let mut errors = Vec::new(alloc);
+        let (told, wrong) = (&mut notices, &mut errors);
+        let (station, line) = Station::open(rt, alloc, endpoint, user, None, told, wrong)?;
+        let other = OtherStation {
+            station,
+            notices,
+            errors,
+        };
+        Ok((other, line))
+    }
+
+    fn run<R: Threads + Clock + Sync>(
+        self,
+        rt: &R,
+        turns: u64,
+        flags: &Flags,
+        barrier: &Barrier,
+    ) -> OtherStation<U, O>
+        ensures { KeepsItsLine self result }
+    {
+        let OtherStation {
+            station,
+            mut notices,
+            mut errors,
+        } = self;
+        let station = station.run(rt, turns, flags, barrier, &mut notices, &mut errors);
+        OtherStation {
+            station,
+            notices,
+            errors,
+        }
+    }
+}
+
+/// Runs each station on a thread of its own.
+///
+/// # Errors
+///
+/// Memory ran out. Then the stations are lost.
+pub(crate) fn run_others<R: Threads + Clock + Sync, U: User + Send, O: Write + Send + Drop>(
+    rt: &R,
+    turns: u64,
+    flags: &Flags,
+    barrier: &Barrier,
+    others: Vec<OtherStation<U, O>>,
+) -> Result<Vec<OtherStation<U, O>>, AllocError>
+    ensures { IfOk result (λ ran. AllZip KeepsItsLine others.items ran.items) }
+{
+    let ran = thread::map_vec(
+        rt,
+        others,
+        &|other: OtherStation<U, O>| -> OtherStation<U, O>
+            ensures { KeepsItsLine other result }
+        { other.run(rt, turns, flags, barrier) },
+    )?;
+    Ok(ran)
+}

@@ -1,0 +1,373 @@
+//! The user agents: one that listens, one that calls, and one that does what a pipe says.
+
+ghost use Rattle.std.specs.Prelude.{◌≡◌, ◌^◌, ◌<◌, ◌≤◌, IfSome};
+ghost use Rattle.std.specs.List.{AllZip};
+ghost use Rattle.sip_udp.specs.Hearing.{EndsLine};
+
+use crate::answering::Answering;
+use crate::bell::Bell;
+use crate::call_plan::CallPlan;
+use crate::calling::Calling;
+use crate::endpoint::Endpoint;
+use crate::fault::UaFault;
+use crate::listen_plan::ListenPlan;
+use crate::listener::{Flags, Heard, hear};
+use crate::other_station::OtherAgent;
+use crate::pipe_input::{PipeLine, feed};
+use crate::piped::Piped;
+use crate::record_file::RecordFile;
+use crate::shared_plan::SharedPlan;
+use crate::socket_table::system_drops;
+use crate::station::{Station, one_line};
+use crate::stations::{add, conclude, open_others, run_all};
+use crate::turns::MOST_COLLECTED;
+use crate::user::User;
+use sip_desk::Poster;
+use sip_message::{Addr, CallId, Uri, ip_text};
+use sip_round::Event;
+use sip_text::Text;
+use std::alloc::{AllocError, Global};
+use std::io::{self, BufRead, Write};
+use std::net::{Net, UdpSocket};
+use std::rt::Files;
+use std::snapshot::Snapshot;
+use std::sync::Arc;
+use std::sync::atomic::Ordering;
+use std::thread::{self, Promise, Threads};
+use std::time::{Clock, Duration};
+
+/// How long the listener waits for a datagram, in ms.
+const READ_TIMEOUT: u64 = 50;
+
+/// One more than the length of the longest datagram that is read, in bytes.
+const BUFFER: usize = 65_536;
+
+/// Takes part in calls for `turns` turns of 10 ms: it answers INVITE, BYE and OPTIONS with 200, and
+/// all other requests with 501. Each notice is written as a line of an output file.
+///
+/// # Errors
+///
+/// The first fault. All threads are joined then, too.
+pub fn listen<R: Threads + Clock + Files + Sync, W: Write>(
+    rt: &R,
+    alloc: Global,
+    socket: UdpSocket,
+    local: Addr,
+    seed: [u8; 32],
+    turns: u32,
+    notices: &mut W,
+) -> Result<(), UaFault> {
+    let endpoint = Endpoint::new(socket, local, seed, None::<Vec<u8>>);
+    let plan = ListenPlan::usual();
+    let turns = u64::from(turns);
+    let others = Vec::<Vec<u8>>::new(alloc);
+    let mut errors = Vec::new(alloc);
+    listen_at(
+        rt,
+        alloc,
+        endpoint,
+        plan,
+        turns,
+        notices,
+        others,
+        &mut errors,
+    )
+}
+
+/// Does what [`listen`] does, at an endpoint, and answers INVITEs by a plan. When the input of the
+/// endpoint has ended, calls that aren't answered get 480, and those that are up get a BYE; the
+/// turns end a second later. If recording is given up, `errors` says so.
+///
+/// The endpoint may have several agents, each on a thread of its own: a call is that of the agent
+/// of its Call-ID. The first tells its notices to `notices`, and each other to one of `others`:
+/// there are no more agents than that.
+///
+/// # Errors
+///
+/// The first fault. All threads are joined then, too.
+pub fn listen_at<
+    R: Threads + Clock + Files + Sync,
+    F: RecordFile,
+    W: Write,
+    O: Write + Send + Drop,
+    E: Write,
+>(
+    rt: &R,
+    alloc: Global,
+    mut endpoint: Endpoint<F>,
+    plan: ListenPlan,
+    turns: u64,
+    notices: &mut W,
+    others: Vec<O>,
+    errors: &mut E,
+) -> Result<(), UaFault> {
+    let agents = endpoint.agents().min(others.len() + 1);
+    endpoint.share_limit(agents);
+    let plan = SharedPlan::new(alloc, endpoint.config.local.ip, plan)?;
+    let user = Answering::new(alloc, plan.clone()?);
+    let others = other_agents(alloc, &endpoint, &plan, agents, others)?;
+    talk(
+        rt, alloc, endpoint, user, others, None, turns, notices, errors,
+    )
+}
+
+// The agents from the second on, of so many. Each tells its notices to one of the writers.
+fn other_agents<F: RecordFile, O: Drop>(
+    alloc: Global,
+    endpoint: &Endpoint<F>,
+    plan: &Arc<SharedPlan>,
+    agents: usize,
+    mut writers: Vec<O>,
+) -> Result<Vec<OtherAgent<Answering, O>>, UaFault>
+    requires most { agents ≤ 16 }
+    requires room { 1 < agents → endpoint.now.config.first < 2 ^ 58 }
+{
+    let mut others = Vec::new(alloc);
+    for number in 1..agents {
+        let Some(notices) = writers.pop() else {
+            break;
+        };
+        let agent = OtherAgent {
+            endpoint: endpoint.of_agent(number)?,
+            user: Answering::new(alloc, plan.clone()?),
+            notices,
+        };
+        add(&mut others, agent)?;
+    }
+    Ok(others)
+}
+
+/// Calls a URI at an address, ends each dialog that a 2xx confirms, and takes `turns` turns of 10
+/// ms. Each notice is written as a line of an output file.
+///
+/// # Errors
+///
+/// The first fault. All threads are joined then, too.
+pub fn call<R: Threads + Clock + Files + Sync, W: Write>(
+    rt: &R,
+    alloc: Global,
+    socket: UdpSocket,
+    local: Addr,
+    to: Addr,
+    uri: Uri,
+    call_id: CallId,
+    seed: [u8; 32],
+    turns: u32,
+    notices: &mut W,
+) -> Result<(), UaFault> {
+    let endpoint = Endpoint::new(socket, local, seed, None::<Vec<u8>>);
+    let plan = CallPlan::usual(alloc, to, uri, call_id);
+    let turns = u64::from(turns);
+    let mut errors = Vec::new(alloc);
+    call_from(rt, alloc, endpoint, plan, turns, notices, &mut errors)
+}
+
+/// Does what [`call`] does, from an endpoint and by a plan. When the input of the endpoint has
+/// ended, the call is cancelled or ended, and the turns end at most a second later. If recording is
+/// given up, `errors` says so.
+///
+/// # Errors
+///
+/// The first fault. All threads are joined then, too.
+pub fn call_from<R: Threads + Clock + Files + Sync, F: RecordFile, W: Write, E: Write>(
+    rt: &R,
+    alloc: Global,
+    endpoint: Endpoint<F>,
+    plan: CallPlan,
+    turns: u64,
+    notices: &mut W,
+    errors: &mut E,
+) -> Result<(), UaFault> {
+    let from = own_uri(alloc, endpoint.config.local)?;
+    let user = Calling::new(alloc, endpoint.config.local.ip, plan, from)?;
+    let others = alone::<Calling>(alloc);
+    talk(
+        rt, alloc, endpoint, user, others, None, turns, notices, errors,
+    )
+}
+
+/// Does what the lines of the input say. Each is a command as in an event file, or in a session
+/// with header lines before it, as the endpoint says. Each notice and each drop is written as a
+/// line of an output file. A line that has no part in a command is reported on `errors` with its
+/// number. After the end of the input it goes on until nothing is held, or for `linger` ms.
+///
+/// # Errors
+///
+/// The first fault. The input may not have ended then.
+pub fn agent<
+    R: Threads + Clock + Files + Net + Sync,
+    F: RecordFile,
+    I: BufRead + Send + Drop + 'static,
+    W: Write,
+    E: Write,
+>(
+    rt: &R,
+    alloc: Global,
+    endpoint: Endpoint<F>,
+    input: I,
+    linger: u32,
+    notices: &mut W,
+    errors: &mut E,
+) -> Result<(), UaFault> {
+    let bell = bell_of(rt, alloc)?;
+    let flags = flags_with(alloc, Some(bell.clone()?))?;
+    let their_flags = flags.clone()?;
+    let (user, mut line) = piped(alloc, &flags, linger)?;
+    let kind = endpoint.kind;
+    let Ok(feeder) = thread::spawn(rt, move || {
+        feed(alloc, kind, input, &mut line, their_flags)
+    }) else {
+        return Err(UaFault::Socket);
+    };
+    let bell = Some(bell);
+    let others = alone::<Piped>(alloc);
+    let end = talk(
+        rt,
+        alloc,
+        endpoint,
+        user,
+        others,
+        bell,
+        u64::MAX,
+        notices,
+        errors,
+    );
+    flags.stop.store(true, Ordering::SeqCst);
+    end?;
+    feeder.join(rt)?;
+    Ok(())
+}
+
+// The user at the line of a pipe, and the poster of that line.
+fn piped(
+    alloc: Global,
+    flags: &Arc<Flags>,
+    linger: u32,
+) -> Result<(Piped, Poster<PipeLine>), UaFault> {
+    let flags = flags.clone()?;
+    let (pipe, line) = one_line(alloc, MOST_COLLECTED)?;
+    Ok((Piped::new(alloc, pipe, flags, linger), line))
+}
+
+// `sip:ua@` and the local IP.
+fn own_uri(alloc: Global, local: Addr) -> Result<Uri, AllocError> {
+    let [_a, _b, _c, _d] = local.ip;
+    let mut text = Text::copy_of(alloc, b"sip:ua@")?;
+    text.extend_from_slice(&ip_text(local.ip))?;
+    Ok(Uri::from_text(text))
+}
+
+// No other agents.
+fn alone<U: User>(alloc: Global) -> Vec<OtherAgent<U, Vec<u8>>> {
+    Vec::new(alloc)
+}
+
+/// The ends of the listener's lines belong to their posters.
+#[derive(Drop)]
+struct OfLines(Snapshot<Vec<Poster<Event>>>);
+
+impl Promise<Heard> for OfLines {
+    ghost kept_by = { λ promise heard. IfSome heard.ends
+        (λ ends. AllZip EndsLine promise.0.value.items ends.items) };
+}
+
+fn bell_of<N: Net>(rt: &N, alloc: Global) -> Result<Arc<Bell>, UaFault> {
+    let Ok(bell) = Bell::new(rt) else {
+        return Err(UaFault::Socket);
+    };
+    match Arc::new(alloc, bell) {
+        Ok(bell) => Ok(bell),
+        Err(_) => Err(UaFault::NoMemory),
+    }
+}
+
+fn flags_with(alloc: Global, bell: Option<Arc<Bell>>) -> Result<Arc<Flags>, UaFault> {
+    match Arc::new(alloc, Flags::with_bell(bell)) {
+        Ok(flags) => Ok(flags),
+        Err(_) => Err(UaFault::NoMemory),
+    }
+}
+
+// What the thread of the listener gets besides its lines.
+#[derive(Drop)]
+struct Ears {
+    socket: UdpSocket,
+    buffer: Vec<u8>,
+    flags: Arc<Flags>,
+}
+
+impl Ears {
+    fn new(alloc: Global, socket: &UdpSocket, flags: &Arc<Flags>) -> Result<Ears, UaFault> {
+        let Ok(socket) = timed_clone(socket) else {
+            return Err(UaFault::Socket);
+        };
+        Ok(Ears {
+            socket,
+            buffer: vec![in alloc; 0u8; BUFFER]?,
+            flags: flags.clone()?,
+        })
+    }
+
+    fn hear(self, alloc: Global, lines: Vec<Poster<Event>>) -> Heard
+        ensures { IfSome result.ends (λ ends. AllZip EndsLine lines.items ends.items) }
+    {
+        let Ears {
+            socket,
+            buffer,
+            flags,
+        } = self;
+        hear(alloc, socket, buffer, lines, flags)
+    }
+}
+
+// Starts the listener, takes the turns of all agents, and joins the listener.
+fn talk<
+    R: Threads + Clock + Files + Sync,
+    U: User + Send,
+    F: RecordFile,
+    W: Write,
+    O: Write + Send + Drop,
+    E: Write,
+>(
+    rt: &R,
+    alloc: Global,
+    endpoint: Endpoint<F>,
+    user: U,
+    others: Vec<OtherAgent<U, O>>,
+    bell: Option<Arc<Bell>>,
+    turns: u64,
+    notices: &mut W,
+    errors: &mut E,
+) -> Result<(), UaFault> {
+    let local = endpoint.config.local;
+    let is_announced = endpoint.is_announced;
+    let flags = flags_with(alloc, bell.clone()?)?;
+    let ears = Ears::new(alloc, &endpoint.socket, &flags)?;
+    let (own, line) = Station::open(rt, alloc, endpoint, user, bell, notices, errors)?;
+    let (others, lines) = open_others(rt, alloc, &own, line, others)?;
+    let of_lines = OfLines(Snapshot::of(&lines));
+    let listening = move || -> Heard
+        ensures { IfSome result.ends (λ ends. AllZip EndsLine lines.items ends.items) }
+    { ears.hear(alloc, lines) };
+    let Ok(listener) = thread::spawn_with(rt, of_lines, listening) else {
+        return Err(UaFault::Socket);
+    };
+    if is_announced {
+        let _ = writeln!(errors, "ua: ready at {local}");
+    }
+    let (own, ran) = run_all(rt, turns, &flags, own, others, notices, errors);
+    flags.stop.store(true, Ordering::SeqCst);
+    let heard = listener.join(rt);
+    let lost = if own.turns.is_counted() {
+        system_drops(rt, alloc, local)
+    } else {
+        None
+    };
+    let others = ran?;
+    conclude(own, others, heard, lost, errors)
+}
+
+fn timed_clone(socket: &UdpSocket) -> io::Result<UdpSocket> {
+    socket.set_read_timeout(Some(Duration::from_millis(READ_TIMEOUT)))?;
+    socket.try_clone()
+}
