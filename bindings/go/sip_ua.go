@@ -15,6 +15,7 @@ import "C"
 
 import (
 	"bytes"
+	"errors"
 	"net/netip"
 	"strings"
 	"unsafe"
@@ -60,19 +61,30 @@ func bytesOf(data []byte) (*C.uint8_t, C.size_t) {
 	return (*C.uint8_t)(unsafe.Pointer(&data[0])), C.size_t(len(data))
 }
 
-func address(of netip.AddrPort) C.sip_ua_address {
+// ErrAddress says that an address isn't of IPv4. Nothing has changed.
+var ErrAddress = errors.New("sip_ua: not an IPv4 address")
+
+func address(of netip.AddrPort) (C.sip_ua_address, error) {
 	var told C.sip_ua_address
-	for i, b := range of.Addr().Unmap().As4() {
+	ip := of.Addr().Unmap()
+	if !ip.Is4() {
+		return told, ErrAddress
+	}
+	for i, b := range ip.As4() {
 		told.ip[i] = C.uint8_t(b)
 	}
 	told.port = C.uint16_t(of.Port())
-	return told
+	return told, nil
 }
 
 // New creates an agent. Via and Contact say the address local. seed is a secret, different for each
 // agent. first is the number of the first round.
 func New(local netip.AddrPort, seed [32]byte, first uint64) (*Agent, error) {
-	start := C.sip_ua_configuration{local: address(local), first: C.uint64_t(first)}
+	own, err := address(local)
+	if err != nil {
+		return nil, err
+	}
+	start := C.sip_ua_configuration{local: own, first: C.uint64_t(first)}
 	for i, b := range seed {
 		start.seed[i] = C.uint8_t(b)
 	}
@@ -80,9 +92,13 @@ func New(local netip.AddrPort, seed [32]byte, first uint64) (*Agent, error) {
 	return agent, done(C.sip_ua_raw_new(&agent.agent, &start, 1))
 }
 
-// Datagram adds a datagram that was received from an address.
+// Datagram adds a datagram that was received from an address. One from an IPv6 address is refused by
+// ErrAddress: pass over it, since a socket of both kinds gives such.
 func (a *Agent) Datagram(from netip.AddrPort, data []byte) error {
-	source := address(from)
+	source, err := address(from)
+	if err != nil {
+		return err
+	}
 	at, size := bytesOf(data)
 	return done(C.sip_ua_raw_datagram(&a.agent, &source, at, size))
 }
