@@ -28,7 +28,8 @@ def refuse(calls):
     code = ctypes.create_string_buffer(b"".join(struct.pack("HBBI", *step) for step in steps))
     program = struct.pack("HxxxxxxP", len(steps), ctypes.addressof(code))
     prctl = ctypes.CDLL(None, use_errno=True).prctl
-    for words in [(PR_SET_NO_NEW_PRIVS, 1, 0, 0, 0), (PR_SET_SECCOMP, SECCOMP_MODE_FILTER, program)]:
+    filtered = (PR_SET_SECCOMP, SECCOMP_MODE_FILTER, program)
+    for words in [(PR_SET_NO_NEW_PRIVS, 1, 0, 0, 0), filtered]:
         if prctl(*words) != 0:
             sys.exit(f"refused.py: {os.strerror(ctypes.get_errno())}")
 
