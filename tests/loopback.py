@@ -1,5 +1,6 @@
 """Addresses and peers on loopback."""
 
+import itertools
 import socket
 
 from process import PATIENCE
@@ -7,12 +8,14 @@ from register import Wrong, shortened
 
 # An address at which the system chooses the port.
 ANY = "127.0.0.1:0"
+# The last numbers of hosts that no test has yet.
+HOSTS = itertools.count(2)
 
 
-def bound():
+def bound(host="127.0.0.1"):
     """A socket with a port that the system chose."""
     own = socket.socket(socket.AF_INET, socket.SOCK_DGRAM)
-    own.bind(("127.0.0.1", 0))
+    own.bind((host, 0))
     own.settimeout(PATIENCE)
     return own
 
@@ -23,8 +26,8 @@ def address_of(own):
 
 
 def free_address():
-    """An address that no socket has any more."""
-    with bound() as own:
+    """An address that no socket has, at a host that no other test has."""
+    with bound(f"127.0.0.{next(HOSTS)}") as own:
         return address_of(own)
 
 
