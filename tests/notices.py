@@ -5,7 +5,7 @@ import re
 
 from agents import plain
 from loopback import ANY, Peer
-from process import Running, tries
+from process import Lines, Running, tries
 from register import expect, test
 from talks import count
 
@@ -28,7 +28,7 @@ def an_output_that_is_read_late():
             peer.receive("OPTIONS ")
             agent.end_input()
             agent.errors.next(" rounds, ")
-            notices = unread.read().decode().splitlines()
+            notices = Lines(unread).whole().splitlines()
             ended = agent.ended()
     expect("status", 0, ended.status)
     lost = count(ended.errors, "notices lost, since the output wasn't read\n")

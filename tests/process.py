@@ -111,8 +111,11 @@ class Running:
 
     def end_input(self):
         """Ends its input. An empty line comes before: an input without a byte may be ignored."""
-        self.say("")
-        self.process.stdin.close()
+        try:
+            self.say("")
+            self.process.stdin.close()
+        except BrokenPipeError:
+            pass  # it has ended before
 
     def ended(self):
         """Waits for its end."""
