@@ -65,6 +65,7 @@ def an_output_that_takes_nothing_ends_the_run():
         listener = Running("listen", "--local", ANY, stdout=full)
     with listener, Peer(listener.ready()) as peer:
         peer.ask("INFO", "c1")
+        peer.receive("SIP/2.0 501 ")
         listener.end_input()
         ended = listener.ended()
     expect("the end", (4, told), (ended.status, ended.errors.partition("\n")[2]))
