@@ -201,7 +201,7 @@ def a_compact_journal_leads_to_the_same():
     expect("the calls of the short one", calls - ended, calls_in(compact, ""))
     byes = byes_for(whole, calls - ended)
     answers = last_round(whole + byes)
-    expect("answers to each BYE", 3, answers.count("SIP/2.0 481 ") + answers.count(" ended "))
+    expect("calls that are up", 3, answers.count(" ended "))
     expect("what comes of each BYE", answers, last_round(compact + byes))
     other = read(STORED.with_name("without-a-call"))
     expect("of a journal without a call", False, last_round(other + byes) == answers)
