@@ -108,7 +108,9 @@ def a_torn_end_is_cut_off():
             kept = whole[: whole.rindex("\n", 0, length) + 1]
             told = f"ua: {length - len(kept)} bytes at the end of the journal left out\n"
             expect(f"{length} bytes", (0, told), (ended.status, without_ready(ended.errors)))
-            expect(f"{length} bytes", kept, read(room.journal)[: len(kept)])
+            # The next round, if there is one, stands behind the whole lines.
+            front, rest = read(room.journal)[: len(kept)], read(room.journal)[len(kept) :]
+            expect(f"{length} bytes", (kept, "round "), (front, (rest or "round ")[:6]))
 
 
 @test
@@ -170,10 +172,10 @@ def a_journal_of_another_process_or_address():
                      f"ua: socket failed\nua: {local}: Address already in use (os error 98)\n")]:
                 ended = ran(*words, "--journal", room.journal)
                 expect(words, (status, "", told), ended)
-        other = free_address()
-        ended = ran("listen", "--local", other, "--journal", room.journal)
-        told = f"ua: bad argument\nua: --local {other}: not the address of the journal\n"
-        expect("another address", (2, "", told), ended)
+        for other in [ANY, free_address()]:
+            ended = ran("listen", "--local", other, "--journal", room.journal)
+            told = f"ua: bad argument\nua: --local {other}: not the address of the journal\n"
+            expect(other, (2, "", told), ended)
 
 
 @test

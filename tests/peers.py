@@ -112,9 +112,9 @@ def a_re_invite_is_answered_with_the_next_version():
 @test
 def a_listener_without_a_datagram_goes_on():
     """A socket that gets no datagram in time hasn't failed: a listener gives up after a hundred
-    failures of 50 ms."""
+    failures, each after at least 50 ms."""
     with Running("listen", "--local", ANY) as listener, Peer(listener.ready()) as peer:
-        time.sleep(6)
+        time.sleep(8)
         peer.ask("OPTIONS", "c1")
         is_answered(peer, "200", "c1")
 
