@@ -6,7 +6,7 @@ import threading
 import time
 from collections import namedtuple
 
-from register import Wrong
+from register import Wrong, shortened
 
 # How long anything may take, in seconds. It is long, since machines may be slow.
 PATIENCE = 60
@@ -17,13 +17,27 @@ program = None
 Ended = namedtuple("Ended", "status output errors")
 
 
-def ran(*words, text="", **streams):
-    """How a run on this input ends. `streams` are files in place of its input or output."""
+def ran(*words, text="", script=(), **streams):
+    """How a run on this input ends. `streams` are files in place of its input or output; a script
+    is a command that becomes the program."""
     if "stdin" not in streams:
         streams["input"] = text.encode("latin-1")
     streams = {"stdout": subprocess.PIPE, "stderr": subprocess.PIPE, **streams}
-    done = subprocess.run([program, *words], timeout=PATIENCE, check=False, **streams)
+    done = subprocess.run([*script, program, *words], timeout=PATIENCE, check=False, **streams)
     return Ended(done.returncode, text_of(done.stdout), text_of(done.stderr))
+
+
+def redirected(redirection):
+    """A script that redirects a stream, as a shell spells that, and becomes the program."""
+    return ["sh", "-c", f'exec "$@" {redirection}', "sh"]
+
+
+def tries(what):
+    """Numbers from 1 on, one each 50 ms, as long as anything may take: this should be so before."""
+    for number in range(1, PATIENCE * 20):
+        yield number
+        time.sleep(0.05)
+    raise Wrong(f"{what}\ncame:   nothing, in {PATIENCE} s")
 
 
 def text_of(written):
@@ -58,13 +72,13 @@ class Lines:
                         return self.lines[self.seen - 1]
                 left = deadline - time.monotonic()
                 if self.is_over or not self.changed.wait(max(left, 0)):
-                    raise Wrong(f"a line\nwanted: {parts}\ncame:   {self.lines}")
+                    raise Wrong(f"a line\nwanted: {parts}\ncame:   {shortened(self.lines)}")
 
     def whole(self):
         """Waits for the end of the stream, and gives all of it."""
         with self.changed:
             if not self.changed.wait_for(lambda: self.is_over, PATIENCE):
-                raise Wrong(f"the end of a stream\ncame: {self.lines}")
+                raise Wrong(f"the end of a stream\ncame:   {shortened(self.lines)}")
             return "".join(self.lines)
 
 
@@ -75,7 +89,7 @@ class Running:
     def __init__(self, *words, script=(), stdout=subprocess.PIPE):
         self.process = subprocess.Popen(
             [*script, program, *words], stdin=subprocess.PIPE, stdout=stdout,
-            stderr=subprocess.PIPE, bufsize=0)
+            stderr=subprocess.PIPE)
         self.output = Lines(self.process.stdout) if self.process.stdout else None
         self.errors = Lines(self.process.stderr)
 
@@ -86,19 +100,27 @@ class Running:
         self.process.kill()
         self.process.wait()
 
+    def ready(self):
+        """Waits until datagrams can come, and gives the address."""
+        return self.errors.next("ua: ready at ").split()[-1]
+
     def say(self, text):
         """Writes a line to its input."""
         self.process.stdin.write(f"{text}\n".encode("latin-1"))
+        self.process.stdin.flush()
 
     def end_input(self):
-        """Ends its input, which has at least a line: an empty one says nothing."""
-        self.say("")
-        self.process.stdin.close()
+        """Ends its input. An empty line comes before: an input without a byte may be ignored."""
+        try:
+            self.say("")
+            self.process.stdin.close()
+        except BrokenPipeError:
+            pass  # it has ended before
 
     def ended(self):
         """Waits for its end."""
         try:
             status = self.process.wait(PATIENCE)
         except subprocess.TimeoutExpired:
-            raise Wrong(f"an end\ncame: it still runs, and told {self.errors.lines}") from None
+            raise Wrong(f"an end\ncame:   it runs, and told {self.errors.lines}") from None
         return Ended(status, self.output.whole() if self.output else "", self.errors.whole())

@@ -1,0 +1,247 @@
+"""Journals: a run goes on from its rounds, ends if it can't write them, and makes them shorter."""
+
+import re
+import resource
+import tempfile
+from pathlib import Path
+
+from agents import plain
+from loopback import ANY, Peer, bound, address_of, free_address, tag_of
+from process import Running, ran
+from refused import refusing
+from register import expect, test
+from stored_cases import FOLDERS, read
+from talks import lines_after, replayed
+
+# A script that leaves a write above the limit of a file to the program, which it would end.
+LIMITED = ["sh", "-c", "trap '' XFSZ; exec \"$@\"", "sh"]
+TOO_LARGE = "File too large (os error 27)"
+MISSING = "No such file or directory (os error 2)"
+# The script of test_cases: a journal of nine calls that are over and three that are up.
+STORED = FOLDERS[1] / "compaction/journal"
+
+
+class Room:
+    """A folder with a journal."""
+
+    def __enter__(self):
+        self.folder = tempfile.TemporaryDirectory()
+        self.journal = Path(self.folder.name, "journal")
+        return self
+
+    def __exit__(self, *_):
+        self.folder.cleanup()
+
+
+def answered(peer, call):
+    """Waits for the 200 of an INVITE, and acknowledges it. Gives the tag of the callee."""
+    tag = tag_of(peer.receive("SIP/2.0 200 ", f"Call-ID: {call}\r\n"), "To")
+    peer.ask("ACK", call, 1, tag)
+    return tag
+
+
+@test
+def an_agent_goes_on_from_its_journal():
+    with Room() as room, bound() as silent:
+        local, command = free_address(), plain(address_of(silent), "c1", "OPTIONS") + "\n"
+        words = ["agent", "--local", local, "--journal", room.journal, "--linger", "0"]
+        first = ran(*words, text=command)
+        expect("the first run", (0, ""), (first.status, first.output))
+        rounds = read(room.journal)
+        expect("a session", True, rounds.startswith("sip-session 1\n"))
+        expect("its first round", True, command in rounds.split("\nround ")[1] + "\n")
+        second = ran(*words)
+        last = rounds.count("\nround ") - 1
+        expect("the second run", (0, f"resumed {last}\n"), (second.status, second.output))
+        expect("its front", rounds, read(room.journal)[: len(rounds)])
+
+
+@test
+def what_is_not_in_the_journal_is_not_sent():
+    """A round that can't be written ends the run; with `--journal-may-fail` only the journal."""
+    told = f"ua: --journal: {TOO_LARGE}\nua: journal failed\n"
+    lost = f"ua: record failed\nua: --record: {TOO_LARGE}\n"
+    for words, ends in [([], True), (["--journal-may-fail"], False)]:
+        with Room() as room:
+            words = ["agent", "--local", ANY, "--journal", room.journal, "--linger", "0", *words]
+            with Running(*words, script=LIMITED) as agent, Peer(agent.ready()) as peer:
+                limit(agent, room.journal.stat().st_size)
+                agent.say(plain(peer.address, "c1", "OPTIONS"))
+                if not ends:
+                    peer.receive("OPTIONS ")
+                agent.end_input()
+                ended = agent.ended()
+                if ends:
+                    peer.has_nothing()
+        expect(words, (4 if ends else 0, "", told if ends else lost),
+               (ended.status, ended.output, ended.errors.partition("\n")[2]))
+
+
+def limit(run, most):
+    """Limits the files of a run to so many bytes."""
+    resource.prlimit(run.process.pid, resource.RLIMIT_FSIZE, (most, most))
+
+
+@test
+def the_disk_is_waited_for():
+    """With `--sync` a round that doesn't reach the disk ends the run, too."""
+    for words, status in [([], 0), (["--sync"], 4)]:
+        with Room() as room, bound() as silent:
+            words = ["--local", ANY, "--journal", room.journal, "--linger", "0", *words]
+            ended = ran("agent", *words, text=plain(address_of(silent), "c1", "OPTIONS"),
+                        script=refusing("fdatasync"))
+        expect(words, status, ended.status)
+
+
+@test
+def a_torn_end_is_cut_off():
+    """A journal that was cut off within a line goes on with the whole lines before it."""
+    with Room() as room, bound() as silent:
+        words = ["agent", "--local", free_address(), "--journal", room.journal, "--linger", "0"]
+        for call in ["c1", "c2"]:
+            ran(*words, text=plain(address_of(silent), call, "OPTIONS"))
+        whole = read(room.journal)
+        lines = [whole.index(f"plain {call} ") for call in ("c1", "c2")]
+        for length in [lines[0] + 5, lines[1] - 5, lines[1] + 20, len(whole) - 1]:
+            room.journal.write_bytes(whole[:length].encode("latin-1"))
+            ended = ran(*words)
+            kept = whole[: whole.rindex("\n", 0, length) + 1]
+            told = f"ua: {length - len(kept)} bytes at the end of the journal left out\n"
+            expect(f"{length} bytes", (0, told), (ended.status, without_ready(ended.errors)))
+            # The next round, if there is one, stands behind the whole lines.
+            front, rest = read(room.journal)[: len(kept)], read(room.journal)[len(kept) :]
+            expect(f"{length} bytes", (kept, "round "), (front, (rest or "round ")[:6]))
+
+
+@test
+def a_call_goes_on_after_a_crash():
+    """The first one is up, the second one rings: both go on, with their ids."""
+    with Room() as room:
+        local = free_address()
+        words = ["listen", "--local", local, "--ring", "2000", "--journal", room.journal]
+        with Peer(local) as peer:
+            with Running(*words) as listener:
+                listener.ready()
+                peer.ask("INVITE", "c1")
+                tag = answered(peer, "c1")
+                listener.output.next("notice c1 ack ")
+                peer.ask("INVITE", "c2")
+                rings = listener.output.next("notice c2 request ").split()[3]
+                peer.receive("SIP/2.0 180 ")
+            with Running(*words) as listener:
+                listener.ready()
+                listener.output.next("resumed ")
+                answered(peer, "c2")
+                listener.output.next(f"notice c2 ack {rings} ")
+                peer.ask("BYE", "c1", 2, tag)
+                listener.output.next("notice c1 ended ")
+                listener.end_input()
+                expect("status", 0, listener.ended().status)
+
+
+@test
+def a_file_that_is_no_journal_stays_as_it_was():
+    head = f"sip-session 1\nlocal {{}}\nseed {64 * '0'}\nfirst 0\n"
+    unread = "ua: not a journal\nua: --journal {}: not read\n"
+    for text, status, told in [
+            ("nothing of a journal\n", 1, unread), (head[:20], 1, unread),
+            (head + "round 5\nnone\nround 6\n", 1, "ua: journal round 0: round line 2\n"),
+            (head + "round 5\nround 4\nround 6\n", 3, "ua: round 1: MomentBackwards\n")]:
+        with Room() as room:
+            local = free_address()
+            text = text.format(local)
+            room.journal.write_text(text)
+            ended = ran("agent", "--local", local, "--journal", room.journal)
+            expect(text, (status, "", told.format(room.journal)), ended)
+            expect("the file", text, read(room.journal))
+
+
+def without_ready(errors):
+    return "".join(line for line in errors.splitlines(True) if not line.startswith("ua: ready at "))
+
+
+@test
+def a_journal_of_another_process_or_address():
+    with Room() as room:
+        with Running("listen", "--local", ANY, "--journal", room.journal) as listener:
+            local = listener.ready()
+            for words, status, told in [
+                    (["listen", "--local", ANY], 2,
+                     f"ua: bad argument\nua: --journal {room.journal}: another process has it\n"),
+                    (["listen", "--local", local], 4,
+                     f"ua: socket failed\nua: {local}: Address already in use (os error 98)\n")]:
+                ended = ran(*words, "--journal", room.journal)
+                expect(words, (status, "", told), ended)
+        for other in [ANY, free_address()]:
+            ended = ran("listen", "--local", other, "--journal", room.journal)
+            told = f"ua: bad argument\nua: --local {other}: not the address of the journal\n"
+            expect(other, (2, "", told), ended)
+
+
+@test
+def a_journal_that_cannot_be_opened():
+    ended = ran("agent", "--local", ANY, "--journal", "/none/journal")
+    told = f"ua: journal failed\nua: --journal /none/journal: {MISSING}\n"
+    expect("the end", (4, "", told), ended)
+
+
+@test
+def a_compact_journal_leads_to_the_same():
+    """It has the calls alone that are up, and answers all that follows as the whole one does."""
+    with Room() as room:
+        room.journal.write_bytes(STORED.read_bytes())
+        room.journal.chmod(0o640)
+        short = Path(room.folder.name, "short")
+        words = ["compact", "--journal", room.journal, "--into", short]
+        expect("the end", (0, "", ""), ran(*words))
+        expect("permissions", 0o640, short.stat().st_mode & 0o777)
+        told = f"ua: output failed\nua: --into {short}: File exists (os error 17)\n"
+        expect("a second time", (4, "", told), ran(*words))
+        whole, compact = read(room.journal), read(short)
+    calls, ended = calls_in(whole, "INVITE"), calls_in(whole, "BYE")
+    expect("calls that are over", (12, 9), (len(calls), len(ended)))
+    expect("the calls of the short one", calls - ended, calls_in(compact, ""))
+    byes = byes_for(whole, calls - ended)
+    answers = last_round(whole + byes)
+    expect("calls that are up", 3, answers.count(" ended "))
+    expect("what comes of each BYE", answers, last_round(compact + byes))
+    other = read(STORED.with_name("without-a-call"))
+    expect("of a journal without a call", False, last_round(other + byes) == answers)
+
+
+def calls_in(journal, method):
+    """The Call-IDs of the datagrams with this method; of all, if it is empty."""
+    return set(re.findall(rf"\ndatagram \S+ {method}.*\\nCall-ID: ([^\\]+)", journal))
+
+
+def byes_for(journal, calls):
+    """A round in which a BYE of each of these calls comes."""
+    lines = [f"round {max(map(int, lines_after('round ', journal))) + 1}\n"]
+    output = replayed(journal, "--session")
+    told = re.findall(r"notice (\S+) request \S+ INVITE (\S+) (\S+) ", output)
+    for call, tag, peer_tag in told:
+        if call in calls:
+            lines.append(
+                f"datagram 127.0.0.1:6410 BYE sip:service@127.0.0.1:6400 SIP/2.0\\r\\n"
+                f"Via: SIP/2.0/UDP 127.0.0.1:6410;branch=z9hG4bKbye{call}\\r\\n"
+                f"From: <sip:sipp@127.0.0.1>;tag={peer_tag}\\r\\n"
+                f"To: <sip:service@127.0.0.1>;tag={tag}\\r\\n"
+                f"Call-ID: {call}\\r\\nCSeq: 9 BYE\\r\\n\\r\\n\n")
+    return "".join(lines)
+
+
+def last_round(session):
+    return replayed(session, "--session").rpartition("\nround ")[2]
+
+
+@test
+def a_journal_that_is_torn_is_not_made_short():
+    with Room() as room:
+        room.journal.write_bytes(STORED.read_bytes()[:3000])
+        short = Path(room.folder.name, "short")
+        ended = ran("compact", "--journal", room.journal, "--into", short)
+        expect("the end", (1, "", "ua: journal round 4: round line 3\n"), ended)
+        expect("a file", False, short.exists())
+        ended = ran("compact", "--journal", short, "--into", short)
+        told = f"ua: journal failed\nua: --journal {short}: {MISSING}\n"
+        expect("of no file", (4, "", told), ended)
