@@ -70,16 +70,24 @@ impl<U: User> OtherStation<U> {
     }
 
     fn run<R: Threads + Clock + Sync>(
-        mut self,
+        self,
         rt: &R,
         flags: &Flags,
         barrier: &Barrier,
     ) -> OtherStation<U>
         ensures { KeepsItsLine self result }
     {
-        let (notices, errors) = (&mut self.notices, &mut self.errors);
-        self.station.run(rt, flags, barrier, notices, errors);
-        self
+        let OtherStation {
+            station,
+            mut notices,
+            mut errors,
+        } = self;
+        let station = station.run(rt, flags, barrier, &mut notices, &mut errors);
+        OtherStation {
+            station,
+            notices,
+            errors,
+        }
     }
 }
 

@@ -106,14 +106,14 @@ impl<U: User, F: RecordFile> Station<U, F> {
     /// Takes its turns as soon as all stations are there. If they end by a fault, all others are
     /// told to stop.
     pub(crate) fn run<R: Threads + Clock + Sync, W: Write, E: Write>(
-        &mut self,
+        mut self,
         rt: &R,
         flags: &Flags,
         barrier: &Barrier,
         notices: &mut W,
         errors: &mut E,
-    )
-        ensures { KeepsLines self.old.desk self.new.desk }
+    ) -> Station<U, F>
+        ensures { KeepsLines self.desk result.desk }
     {
         let end = if barrier.reach(rt) {
             let (desk, outlet) = (&mut self.desk, &mut self.outlet);
@@ -126,6 +126,7 @@ impl<U: User, F: RecordFile> Station<U, F> {
             self.fault = Some(fault);
             flags.stop.store(true, Ordering::SeqCst);
         }
+        self
     }
 }
 

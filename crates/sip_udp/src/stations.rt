@@ -62,7 +62,7 @@ pub(crate) fn add<T: Drop>(items: &mut Vec<T>, item: T) -> Result<(), AllocError
 pub(crate) fn run_all<R: Threads + Clock + Sync, U: User + Send, F: RecordFile, W: Write, E: Write>(
     rt: &R,
     flags: &Flags,
-    mut own: Station<U, F>,
+    own: Station<U, F>,
     others: Vec<OtherStation<U>>,
     notices: &mut W,
     errors: &mut E,
@@ -73,7 +73,7 @@ pub(crate) fn run_all<R: Threads + Clock + Sync, U: User + Send, F: RecordFile, 
     let barrier = Barrier::new(others.len().saturating_add(1));
     let barrier = &barrier;
     if others.is_empty() {
-        own.run(rt, flags, barrier, notices, errors);
+        let own = own.run(rt, flags, barrier, notices, errors);
         return (own, Ok(others));
     }
     let (ran, own) = thread::join(
@@ -84,24 +84,9 @@ pub(crate) fn run_all<R: Threads + Clock + Sync, U: User + Send, F: RecordFile, 
         { run_others(rt, flags, barrier, others) },
         move || -> Station<U, F>
             ensures { KeepsLines own.desk result.desk }
-        { ran_by(rt, own, flags, barrier, notices, errors) },
+        { own.run(rt, flags, barrier, notices, errors) },
     );
     (own, ran)
-}
-
-// A station that has run.
-fn ran_by<R: Threads + Clock + Sync, U: User, F: RecordFile, W: Write, E: Write>(
-    rt: &R,
-    mut own: Station<U, F>,
-    flags: &Flags,
-    barrier: &Barrier,
-    notices: &mut W,
-    errors: &mut E,
-) -> Station<U, F>
-    ensures { KeepsLines own.desk result.desk }
-{
-    own.run(rt, flags, barrier, notices, errors);
-    own
 }
 
 /// How the stations of agents that have run end: writes what was wrong with the others, and the

@@ -135,8 +135,7 @@ impl<U: User, F: RecordFile> Turns<U, F> {
         bell: Option<Arc<Bell>>,
         errors: &mut E,
     ) -> Result<Turns<U, F>, UaFault> {
-        let base = moment_of_start(rt, endpoint.past.is_some())?;
-        let start = time_now(rt)?;
+        let (start, base) = beginning(rt, endpoint.past.is_some())?;
         let config = endpoint.config;
         let mut waiting = Vec::new(alloc);
         user.begin(alloc, &mut waiting)?;
@@ -629,11 +628,14 @@ fn time_now<R: Clock>(rt: &R) -> Result<Instant, UaFault> {
     }
 }
 
-// The moment at which the turns begin, in ms: 0, or since 1970 if they have a journal.
-fn moment_of_start<R: Clock>(rt: &R, has_journal: bool) -> Result<u64, UaFault> {
-    if !has_journal {
-        return Ok(0);
-    }
+// When the turns begin, and the moment of that, in ms: 0, or since 1970 if they have a journal.
+fn beginning<R: Clock>(rt: &R, has_journal: bool) -> Result<(Instant, u64), UaFault> {
+    let base = if has_journal { since_1970(rt)? } else { 0 };
+    Ok((time_now(rt)?, base))
+}
+
+// The ms since 1970.
+fn since_1970<R: Clock>(rt: &R) -> Result<u64, UaFault> {
     let Ok(now) = SystemTime::now(rt) else {
         return Err(UaFault::Socket);
     };
