@@ -12,6 +12,8 @@ Datagram = namedtuple("Datagram", "time source target data")
 FIELDS = ["frame.time_epoch", "ip.src", "udp.srcport", "ip.dst", "udp.dstport", "udp.payload"]
 SHORT = {0x0D: "\\r", 0x0A: "\\n", 0x09: "\\t", 0x5C: "\\\\"}
 LONG = {text[1]: byte for byte, text in SHORT.items()}
+CONTROL = re.compile(r"[\x00-\x1f\x7f-\x9f]")
+MOST_SHOWN = 200
 
 
 class Fault(Exception):
@@ -52,6 +54,13 @@ def is_of_call(data, call_id):
     """Whether a header line names the Call-ID."""
     line = rb"(?im)^(?:call-id|i)[ \t]*:[ \t]*" + re.escape(call_id.encode()) + rb"[ \t]*\r?$"
     return re.search(line, data) is not None
+
+
+def shown(text, most=MOST_SHOWN):
+    """What of a peer's text goes to a terminal or into a picture: no control character, which could
+    say more than a text, and no more than fits."""
+    text = CONTROL.sub(lambda found: f"\\x{ord(found[0]):02x}", text[: most + 1])
+    return text if len(text) <= most else text[: most - 2] + ".."
 
 
 def rest_of(data):

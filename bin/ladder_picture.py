@@ -8,6 +8,8 @@ whole label as a title.
 from collections import namedtuple
 from html import escape
 
+from captured import shown
+
 # A row: its moment in ms, its label, its kind (request, response, again, bad or note), and the
 # columns where its arrow begins and ends, or None.
 Row = namedtuple("Row", "moment label kind way is_ours", defaults=[None, False])
@@ -41,11 +43,11 @@ def arrow(y, row, start, end):
     back = -7 if end > start else 7
     first = " ".join(row.label.split()[:2])
     return (
-        f'<g class="{classes(row)}"><title>{escape(row.label)}</title>'
+        f'<g class="{classes(row)}"><title>{escape(shown(row.label))}</title>'
         f'<line x1="{start}" y1="{y}" x2="{end}" y2="{y}"/>'
         f'<path stroke-dasharray="none" d="M{end} {y} l{back} -4 v8 z"/></g>'
         f'<text class="{classes(row)}" x="{(start + end) / 2}" y="{y - 4}" text-anchor="middle">'
-        f"{escape(first)}</text>"
+        f"{escape(shown(first))}</text>"
     )
 
 
@@ -63,7 +65,7 @@ def picture(names, rows):
         '<rect width="100%" height="100%" fill="white"/>',
     ]
     for x, name in zip(xs, names):
-        out.append(f'<text class="peer" x="{x}" y="24">{escape(name)}</text>')
+        out.append(f'<text class="peer" x="{x}" y="24">{escape(shown(name))}</text>')
         out.append(f'<line class="column" x1="{x}" y1="34" x2="{x}" y2="{height - 10}"/>')
     for index, row in enumerate(rows):
         y = TOP + ROW * index
@@ -72,7 +74,6 @@ def picture(names, rows):
             out.append(f'<circle class="{row.kind}" cx="{LEFT}" cy="{y}" r="3"/>')
         else:
             out.append(arrow(y, row, xs[row.way[0]], xs[row.way[1]]))
-        out.append(
-            f'<text class="{classes(row)}" x="{right}" y="{y + 4}">{escape(row.label)}</text>'
-        )
+        label = escape(shown(row.label))
+        out.append(f'<text class="{classes(row)}" x="{right}" y="{y + 4}">{label}</text>')
     return out + ["</svg>"]

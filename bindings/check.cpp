@@ -181,6 +181,14 @@ int main() {
     expect(sent[0].text.find("\r\nAllow: INVITE, ACK, BYE\r\n") != std::string::npos,
            "with its header");
     expect(agent.next_due().has_value(), "the end of the transaction is due");
+    for (const bool is_elsewhere : {false, true}) {
+        sip::Address source = came->from;
+        source.ip[3] ^= is_elsewhere;
+        agent.datagram(source, options);
+        const auto again = agent.run(5);
+        expect(again.size() == 1 && agent.is_reflected(again[0]) == is_elsewhere,
+               "a repeat from the same address, and from another one");
+    }
     expect_status(SIP_UA_BACKWARDS, "a moment that goes back", [&] { agent.run_lines(4); });
     expect_status(SIP_UA_MOMENT_TOO_LARGE, "a moment above 2^62",
                   [&] { agent.run_lines(UINT64_MAX); });

@@ -39,10 +39,10 @@ struct Output {
     std::uint32_t place;
 };
 
-/// A header of a command: its name and its value.
+/// A header of a command: its name and its value. It owns both.
 struct Header {
-    std::string_view name;
-    std::string_view value;
+    std::string name;
+    std::string value;
 };
 
 /// The fields of commands, as sip_ua.h has them.
@@ -353,6 +353,13 @@ public:
         if (!came.is_there)
             return std::nullopt;
         return Datagram{came.from, bytes};
+    }
+
+    /// Whether a send of the last round would go to another IP address than the datagram that caused
+    /// it came from: leave it out (sip_ua_is_reflected).
+    bool is_reflected(const TypedOutput &output) {
+        return sip_ua_is_reflected(&agent, &output.numbers,
+                                   reinterpret_cast<const std::uint8_t *>(output.body.data()));
     }
 
     /// What the request with this place says of itself, if it is one.

@@ -1006,6 +1006,16 @@ class Agent:
         (data,) = self._texts("datagram_at", told, _number(place, 32))
         return Datagram(told.source.told(), data) if told.is_there else None
 
+    def is_reflected(self, send: Send) -> bool:
+        """Whether a send of the last round would go to another IP address than the datagram that
+        caused it came from: a response that is sent again since its request came again, from
+        elsewhere. Leave it out. Otherwise whoever forged the source of a large request has each
+        small repeat send a large response to a victim."""
+        if send.place == 0 or not send.datagram.startswith(b"SIP/2.0 "):
+            return False
+        cause = self.datagram_at(send.place)
+        return cause is not None and cause.source[0] != send.to[0]
+
     def request_traits(self, place: int) -> Optional[RequestTraits]:
         """What the request with this place says of itself, if it is one."""
         told = _RequestTraits()

@@ -70,11 +70,12 @@ class Journal(Protocol):
 
 class FileJournal:
     """A journal in a file. It is an OSError if it is open already, in another process or in this
-    one. With `is_synced`, each round waits for the disk: then a power cut loses nothing, either."""
+    one, or if the path is a symbolic link: whoever planted it would get the seed. With `is_synced`,
+    each round waits for the disk: then a power cut loses nothing, either."""
 
     def __init__(self, path: str, is_synced: bool = False):
         self._is_synced = is_synced
-        self._file = os.open(path, os.O_RDWR | os.O_CREAT | os.O_APPEND, 0o600)
+        self._file = os.open(path, os.O_RDWR | os.O_CREAT | os.O_APPEND | os.O_NOFOLLOW, 0o600)
         try:
             fcntl.flock(self._file, fcntl.LOCK_EX | fcntl.LOCK_NB)
         except OSError as error:

@@ -47,7 +47,8 @@ OnTold = Callable[[Union[Notice, Drop]], None]
 class Endpoint(asyncio.DatagramProtocol):
     """An agent with its socket. `open_endpoint` opens one, and `close` closes it. `agent` is the
     Agent. `local` is what Via and Contact say. `lost` counts the datagrams that had no room in a
-    round or above `most_transactions`. `is_closed` says whether it was closed: by `close`, or since
+    round or above `most_transactions`, and `reflected` the responses that weren't sent since their
+    request came again from another address (`Agent.is_reflected`). `is_closed` says whether it was closed: by `close`, or since
     its journal couldn't be written. Then `ask` raises Error NO_AGENT. `on_closed`, if it is set, is
     called then."""
 
@@ -63,6 +64,7 @@ class Endpoint(asyncio.DatagramProtocol):
         self.agent = agent
         self.local = local
         self.lost = 0
+        self.reflected = 0
         self._most_transactions = most_transactions
         self._on_told = on_told
         self._loop = asyncio.get_running_loop()
@@ -162,9 +164,16 @@ class Endpoint(asyncio.DatagramProtocol):
                 self.close()
                 raise
         for output in outputs:
-            if isinstance(output, Send) and not self._sends(output.datagram, output.to):
-                self._fail(output)
+            if isinstance(output, Send):
+                self._take(output)
         self.tell(outputs)
+
+    def _take(self, output: Send) -> None:
+        """Sends a datagram, unless it would answer a repeat from another address."""
+        if self.agent.is_reflected(output):
+            self.reflected += 1
+        elif not self._sends(output.datagram, output.to):
+            self._fail(output)
 
     def tell(self, outputs: Iterable[Output]) -> None:
         """Tells the notices and drops of a round, and waits for the next one."""

@@ -4,6 +4,7 @@ examples/c/register.c. The examples are on the path."""
 
 import asyncio
 import os
+import socket
 import tempfile
 import unittest
 from typing import Any, Awaitable, Callable, List, Tuple, TypeVar
@@ -34,6 +35,11 @@ from sip_ua_udp import open_endpoint
 LIBRARY = os.environ["SIP_UA_LIBRARY"]
 ANY_PORT = ("127.0.0.1", 0)
 OFFER, ANSWER = b"v=0\r\ns=offer\r\n", b"v=0\r\ns=answer\r\n"
+OPTIONS = (
+    "OPTIONS sip:b@127.0.0.1 SIP/2.0\r\nVia: SIP/2.0/UDP 127.0.0.1:PORT;branch=z9hG4bKo1\r\n"
+    "From: <sip:a@127.0.0.1>;tag=f\r\nTo: <sip:b@127.0.0.1>\r\nCall-ID: o1\r\n"
+    "CSeq: 1 OPTIONS\r\n\r\n"
+)
 PATIENCE_S = 30.0
 # How a registrar challenges.
 SCHEMES = [("MD5", 407), ("SHA-256", 401)]
@@ -42,6 +48,14 @@ NONCE_USES = [("n1", 1), ("n1", 2), ("n1", 3), ("n1", 4), ("n2", 1)]
 # The bound of a round.
 MOST_EVENTS = 65536
 T = TypeVar("T")
+
+
+def bound(ip: str) -> socket.socket:
+    """A socket at any port of this address."""
+    opened = socket.socket(socket.AF_INET, socket.SOCK_DGRAM)
+    opened.setblocking(False)
+    opened.bind((ip, 0))
+    return opened
 
 
 async def soon(awaited: Awaitable[T]) -> T:
@@ -363,6 +377,23 @@ class CallsTest(unittest.IsolatedAsyncioTestCase):
         self.assertFalse(asked.done())
         asked.cancel()
         await busy.close(0.1)
+
+    async def test_a_repeat_from_another_address(self) -> None:
+        """The response isn't sent again to whoever asked first."""
+        loop = asyncio.get_running_loop()
+        endpoint = self.one.endpoint
+        with bound("127.0.0.1") as first, bound("127.0.0.2") as other:
+            port = first.getsockname()[1]
+            request = OPTIONS.replace("PORT", str(port)).encode()
+            first.sendto(request, endpoint.local)
+            while b" 200 " not in (await soon(loop.sock_recv(first, 4096)))[:12]:
+                pass
+            first.sendto(request, endpoint.local)
+            self.assertIn(b" 200 ", (await soon(loop.sock_recv(first, 4096)))[:12])
+            other.sendto(request, endpoint.local)
+            await soon(until(lambda: endpoint.reflected == 1))
+            with self.assertRaises(BlockingIOError):
+                first.recv(4096)
 
     async def test_more_datagrams_than_a_round_takes(self) -> None:
         """Those above the bound are lost, and the agent goes on."""

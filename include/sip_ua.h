@@ -1009,6 +1009,23 @@ static inline uint32_t sip_ua_datagram_at(sip_ua *agent, uint32_t place, sip_ua_
     return sip_ua_raw_datagram_at(agent, place, arrival, sip_ua_raw_room(buffer, &otherwise), room);
 }
 
+/* Whether a send would go to another IP address than the datagram that caused it came from: a
+ * response that is sent again since its request came again, from elsewhere. Leave it out, without
+ * sip_ua_failed. Otherwise whoever forged the source of a large request has each small repeat send
+ * a large response to a victim. `text` is that of the output. Of other outputs it is false. */
+static inline bool sip_ua_is_reflected(sip_ua *agent, const sip_ua_typed_output *output,
+                                       const uint8_t *text)
+{
+    sip_ua_arrival cause;
+    cause.is_there = false;
+    if (agent == NULL || output == NULL || text == NULL || output->kind != SIP_UA_SEND)
+        return false;
+    if (output->place == 0 || output->body_len < 8 || memcmp(text, "SIP/2.0 ", 8) != 0)
+        return false;
+    (void)sip_ua_datagram_at(agent, output->place, &cause, NULL, 0);
+    return cause.is_there && memcmp(cause.from.ip, output->to.ip, sizeof cause.from.ip) != 0;
+}
+
 /* What the request with this place in the last round says of itself. `is_there` is false if there
  * is none. Fault: SIP_UA_NO_MEMORY. */
 static inline uint32_t sip_ua_request_traits_at(sip_ua *agent, uint32_t place,

@@ -14,6 +14,8 @@ package sipua
 import "C"
 
 import (
+	"bytes"
+	"errors"
 	"net/netip"
 	"strings"
 	"unsafe"
@@ -59,19 +61,30 @@ func bytesOf(data []byte) (*C.uint8_t, C.size_t) {
 	return (*C.uint8_t)(unsafe.Pointer(&data[0])), C.size_t(len(data))
 }
 
-func address(of netip.AddrPort) C.sip_ua_address {
+// ErrAddress says that an address isn't of IPv4. Nothing has changed.
+var ErrAddress = errors.New("sip_ua: not an IPv4 address")
+
+func address(of netip.AddrPort) (C.sip_ua_address, error) {
 	var told C.sip_ua_address
-	for i, b := range of.Addr().Unmap().As4() {
+	ip := of.Addr().Unmap()
+	if !ip.Is4() {
+		return told, ErrAddress
+	}
+	for i, b := range ip.As4() {
 		told.ip[i] = C.uint8_t(b)
 	}
 	told.port = C.uint16_t(of.Port())
-	return told
+	return told, nil
 }
 
 // New creates an agent. Via and Contact say the address local. seed is a secret, different for each
 // agent. first is the number of the first round.
 func New(local netip.AddrPort, seed [32]byte, first uint64) (*Agent, error) {
-	start := C.sip_ua_configuration{local: address(local), first: C.uint64_t(first)}
+	own, err := address(local)
+	if err != nil {
+		return nil, err
+	}
+	start := C.sip_ua_configuration{local: own, first: C.uint64_t(first)}
 	for i, b := range seed {
 		start.seed[i] = C.uint8_t(b)
 	}
@@ -79,9 +92,13 @@ func New(local netip.AddrPort, seed [32]byte, first uint64) (*Agent, error) {
 	return agent, done(C.sip_ua_raw_new(&agent.agent, &start, 1))
 }
 
-// Datagram adds a datagram that was received from an address.
+// Datagram adds a datagram that was received from an address. One from an IPv6 address is refused by
+// ErrAddress: pass over it, since a socket of both kinds gives such.
 func (a *Agent) Datagram(from netip.AddrPort, data []byte) error {
-	source := address(from)
+	source, err := address(from)
+	if err != nil {
+		return err
+	}
 	at, size := bytesOf(data)
 	return done(C.sip_ua_raw_datagram(&a.agent, &source, at, size))
 }
@@ -135,6 +152,21 @@ func (a *Agent) Run(moment uint64) ([]Output, error) {
 		}
 		outputs = append(outputs, output)
 	}
+}
+
+// IsReflected says whether an output of the last round is a send that would go to another IP address
+// than the datagram that caused it came from: a response that is sent again since its request came
+// again, from elsewhere. Leave it out. Otherwise whoever forged the source of a large request has
+// each small repeat send a large response to a victim.
+func (a *Agent) IsReflected(output Output) bool {
+	if output.Place == 0 || !output.To.IsValid() || !bytes.HasPrefix(output.Text, []byte("SIP/2.0 ")) {
+		return false
+	}
+	var cause C.sip_ua_arrival
+	at, size := bytesOf(a.buffer)
+	C.sip_ua_raw_datagram_at(&a.agent, C.uint32_t(output.Place), &cause, at, size)
+	ip := *(*[4]byte)(unsafe.Pointer(&cause.from.ip))
+	return bool(cause.is_there) && netip.AddrFrom4(ip) != output.To.Addr()
 }
 
 // RequestTraits are what a request says of itself: whether it is in a dialog, and whether it supports

@@ -75,6 +75,19 @@ func TestAnOptionsIsAnswered(t *testing.T) {
 	if due, is, err := agent.NextDue(); err != nil || !is || due != 32010 {
 		t.Fatal(due, is, err)
 	}
+	// A repeat has the response sent again: from another address, it goes to whoever asked first.
+	for source, isReflected := range map[string]bool{"192.0.2.9:5061": false, "192.0.2.66:5060": true} {
+		if err := agent.Datagram(netip.MustParseAddrPort(source), []byte(request)); err != nil {
+			t.Fatal(err)
+		}
+		outputs, err = agent.Run(20)
+		if err != nil || len(outputs) != 1 || agent.IsReflected(outputs[0]) != isReflected {
+			t.Fatal(source, outputs, err)
+		}
+	}
+	if err := agent.Datagram(netip.MustParseAddrPort("[2001:db8::1]:5060"), nil); err != ErrAddress {
+		t.Fatal(err)
+	}
 }
 
 // An agent dies after its first round; another goes on from its journal and answers the request.

@@ -225,6 +225,8 @@ static void run(void)
         must(status, "sip_ua_next");
         if (output.kind == SIP_UA_NOTHING)
             return;
+        if (sip_ua_is_reflected(&agent, &output, texts))
+            continue;
         if (output.kind == SIP_UA_SEND)
             send_output(&output);
         else if (output.kind != SIP_UA_DROP)

@@ -193,7 +193,7 @@ static bool go_on(char *text, size_t at, size_t len)
 static bool begin(const char *path, sip_ua_configuration *configuration)
 {
     struct stat found;
-    journal = open(path, O_RDWR | O_CREAT | O_APPEND, 0600);
+    journal = open(path, O_RDWR | O_CREAT | O_APPEND | O_NOFOLLOW, 0600);
     if (journal < 0 || flock(journal, LOCK_EX | LOCK_NB) != 0 || fstat(journal, &found) != 0)
         die(path, strerror(errno));
     size_t len = (size_t)found.st_size;
@@ -276,6 +276,8 @@ static void take_outputs(bool sends)
         must(status, "sip_ua_next");
         if (output.kind == SIP_UA_NOTHING)
             return;
+        if (sip_ua_is_reflected(&agent, &output, texts))
+            continue;
         if (output.kind == SIP_UA_SEND && sends)
             send_output(&output);
         else if (output.kind == SIP_UA_NOTICE_REQUEST)

@@ -1,6 +1,6 @@
 -- Laws of several agents: no two make the same name, the header by which a datagram is cut says what
 -- its message says, and a failed send that every agent is told of is heeded by one.
-use Rattle.std.specs.Prelude.{◌≡◌, ◌<◌, ◌+◌, ◌/◌, ◌^◌, ℕ, List, [], None, Some, Ok}
+use Rattle.std.specs.Prelude.{◌≡◌, ◌<◌, ◌+◌, ◌^◌, ℕ, List, [], None, Some, Ok}
 use Rattle.sip_clients.specs.Name.{name_of}
 use Rattle.sip_message.specs.declared.id.Id.{Id}
 use Rattle.sip_message.specs.declared.key.Key.{Key}
@@ -9,12 +9,8 @@ use Rattle.sip_reader.specs.ReadMessage.{message_at}
 use Rattle.sip_round.specs.declared.config.Config.{Config}
 use Rattle.sip_transactions.specs.Machine.{transaction_machine}
 use Rattle.sip_transactions.specs.Shard.{failed_send}
-use Rattle.sip_agents.specs.Answers.{config_of}
 use Rattle.sip_agents.specs.Destination.{call_id_in}
-
--- the agent that gave an event this id: each has 2^58 numbers for its rounds
-abbrev pub agent_of_id : Id → ℕ
-agent_of_id id = id.round / 2 ^ 58
+use Rattle.sip_agents.specs.Stripes.{agent_of_id, config_of}
 
 -- the ids of an agent say which agent it is
 abbrev pub EachIdSaysItsAgent : Type 0

@@ -1,6 +1,3 @@
-pub mod AgentsState
-pub mod Answers
 pub mod Destination
 pub mod Laws
-pub mod Parts
-pub mod Steps
+pub mod Stripes

@@ -1,17 +1,6 @@
 //! Laws of several agents.
 
-ghost use Rattle.std.specs.Prelude.{◌≡◌};
 ghost use Rattle.sip_agents.specs.Laws as laws;
-
-use crate::agents::STRIPE;
-use sip_message::Id;
-
-/// The number of the agent that gave an event this id. Takes no memory.
-pub fn agent_of_id(id: Id) -> usize
-    ensures { result ≡ laws.agent_of_id id }
-{
-    (id.round / STRIPE) as usize
-}
 
 /// The id of an event says which agent it is an event of.
 pub fn each_id_says_its_agent()

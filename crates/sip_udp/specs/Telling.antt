@@ -29,7 +29,8 @@ told_id id = (decimal id.round ++ codes ".") ++ decimal id.place
 abbrev pub dropped_head : Id → DropReason → List ℕ
 dropped_head id reason = ((codes "drop " ++ told_id id) ++ reason_text reason) ++ codes " "
 
--- the line of a drop: that, and the datagram as in an event file, but with only its first line
+-- the line of a drop: that, and the datagram as in an event file, but with what is shown of its
+-- first line alone
 abbrev pub dropped_line : Id → DropReason → Addr → List ℕ → List ℕ
 dropped_line id reason from bytes =
     dropped_head id reason ++ ended_text (line.Event (event.Datagram from (first_line bytes)))

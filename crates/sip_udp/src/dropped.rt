@@ -1,6 +1,6 @@
 //! What the user is told about a datagram that was dropped.
 
-ghost use Rattle.std.specs.Prelude.{◌≡◌, IfOk, decimal, string_bytes};
+ghost use Rattle.std.specs.Prelude.{◌≡◌, IfOk, decimal, string_bytes, take};
 ghost use Rattle.std.specs.List.{list_all};
 ghost use Rattle.sip_udp.specs.KeepAlive as spec;
 ghost use Rattle.sip_files.specs.Outputs.{reason_text};
@@ -22,6 +22,9 @@ use std::alloc::{AllocError, Global};
 
 /// Bytes 4 to 7 of a STUN message (RFC 5389, section 6).
 const MAGIC_COOKIE: [u8; 4] = [0x21, 0x12, 0xa4, 0x42];
+
+/// How many bytes of a datagram's first line are shown at most.
+const MOST_SHOWN: usize = 200;
 
 /// Whether a datagram only keeps a NAT binding alive: if it has only CR, LF and NUL bytes, or is a
 /// STUN message.
@@ -49,7 +52,8 @@ fn is_stun(bytes: &[u8]) -> bool
     bytes.len() >= 8 && bytes[0] < 2 && &bytes[4..8] == MAGIC_COOKIE.as_slice()
 }
 
-/// The line of a drop: its id, its reason, and the datagram's event, with only its first line.
+/// The line of a drop: its id, its reason, and the datagram's event, with at most 200 bytes of its
+/// first line.
 pub(crate) fn dropped_line(
     alloc: Global,
     id: Id,
@@ -126,11 +130,19 @@ fn fault_name(alloc: Global, fault: ReadFault) -> Result<String, AllocError>
     format!(in alloc; "{fault}")
 }
 
-// The first line of a text, without its end.
+// The first line of a text, without its end, as far as it is shown.
 fn first_line(alloc: Global, text: &[u8]) -> Result<Text, AllocError>
     ensures { IfOk result (λ line. line ≡ first_line text.now) }
 {
-    Text::copy_of(alloc, without(b'\r', before_end(text)))
+    Text::copy_of(alloc, front(without(b'\r', before_end(text))))
+}
+
+// What is shown of a line.
+#[tactic(auto, using(std::proofs::lemmas::List::take_min))]
+fn front(line: &[u8]) -> &[u8]
+    ensures { result.now ≡ take 200 line.now }
+{
+    &line[..MOST_SHOWN.min(line.len())]
 }
 
 // The text before the first LF, or all of the text.

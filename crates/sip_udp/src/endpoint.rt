@@ -3,7 +3,7 @@
 ghost use Rattle.std.specs.Prelude.{◌≡◌, ◌^◌, ◌<◌, ◌≤◌, IfOk, IsSome, None};
 ghost use Rattle.std.specs.Option.{option_map};
 ghost use Rattle.sip_udp.specs.Admission.{share_of};
-ghost use Rattle.sip_agents.specs.Answers.{config_of};
+ghost use Rattle.sip_agents.specs.Stripes.{config_of};
 
 use crate::division::Division;
 use crate::fault::UaFault;

@@ -1,5 +1,12 @@
-//! Tests of the layers below rounds, of rounds and event files, and of agents over UDP.
+//! Tests of layers from the inside: queues, threads, faults that no event file reaches, and two
+//! agents over a network.
 
-mod layers;
-mod loopback;
-mod rounds;
+mod desk;
+mod dialog;
+mod files;
+mod inlets;
+mod queued_writer;
+mod reliable;
+mod shards;
+mod two_agents;
+mod workers;

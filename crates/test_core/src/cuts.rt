@@ -2,12 +2,12 @@
 //! rounds.
 
 use crate::script::Script;
+use crate::stop::Stop;
 use sip_files::write_outputs;
 use sip_message::{Cut, First, Spread};
 use sip_round::{Agent, Config, OpenGate, Output, Round, RoundFault};
 use std::alloc::Global;
 use std::thread::Threads;
-use test_examples::Stop;
 
 const SHARDS: [usize; 5] = [1, 2, 7, 64, 256];
 

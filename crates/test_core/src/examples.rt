@@ -5,13 +5,22 @@
 
 mod agents;
 mod calls;
+mod dialogs;
 mod files;
 mod heads;
+mod lines;
+mod messages;
+mod pieces;
+mod queues;
 mod rounds;
 mod server_side;
+mod texts;
+mod transactions;
 mod worked;
 
 use crate::refusals::SHARDS;
+use crate::stop::{Stop, expect};
+use crate::tally::tell;
 use files::FirstFails;
 use sip_calls::CallShard;
 use sip_message::Spread;
@@ -22,10 +31,7 @@ use sip_timers::Queue;
 use sip_transactions::Shard;
 use std::alloc::Global;
 use std::thread::Threads;
-use test_examples::{
-    LOCAL, Stop, dialogs, expect, lines, messages, pieces, queues, tell, texts, transactions,
-};
-use worked::{CONFIG, SEED};
+use worked::{CONFIG, LOCAL, SEED};
 
 /// The names of the examples, in the order of their numbers.
 const NAMES: [&str; 50] = [
@@ -78,7 +84,7 @@ const NAMES: [&str; 50] = [
     "header_values",
     "header_lines",
     "Host",
-    "Agents",
+    "destination_of",
 ];
 
 // Runs the example with this number.
@@ -135,7 +141,7 @@ fn example<T: Threads + Sync>(threads: &T, alloc: Global, number: usize) -> Resu
         46 => heads::the_values_of_a_header(alloc),
         47 => heads::header_lines_in_order(alloc),
         48 => heads::a_host_reads_a_datagram(alloc),
-        49 => agents::each_call_has_its_agent(threads, alloc),
+        49 => agents::each_call_has_its_agent(alloc),
         _ => Err(Stop::Words),
     }
 }

@@ -1,8 +1,8 @@
 //! A reader and writer that fails at one of its calls.
 
+use crate::stop::{Stop, expect};
 use std::alloc::Global;
 use std::io::{self, Read, Write};
-use test_examples::{Stop, expect};
 
 /// How many devices, or outlets, are made at most, of which each fails at a later call.
 pub const MOST_TURNS: u64 = 100_000;

@@ -1,9 +1,9 @@
 //! What the faults of files and hosts come to.
 
+use crate::stop::Stop;
 use sip_files::{EventsFault, ReplayFault};
 use sip_host::HostFault;
 use sip_round::RoundFault;
-use test_examples::Stop;
 
 /// Why reading an event file stopped.
 pub fn of_events(fault: EventsFault) -> Stop {

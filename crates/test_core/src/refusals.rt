@@ -1,12 +1,12 @@
 //! The script when memory may run out: the answer is right, or says that memory ran out.
 
 use crate::script::Script;
+use crate::stop::{Stop, broken_where, check};
 use sip_files::write_outputs;
 use sip_message::Spread;
 use sip_round::{Agent, OpenGate, Output, Round, RoundFault};
 use std::alloc::Global;
 use std::thread::Threads;
-use test_examples::{Stop, broken_where, check};
 
 /// The numbers of shards and workers of the agent that runs it.
 pub const SHARDS: usize = 2;

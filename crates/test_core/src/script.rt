@@ -1,12 +1,12 @@
 //! An event file, and the output file that it gives.
 
 use crate::faults::of_events;
+use crate::stop::Stop;
 use sip_files::read_events;
 use sip_round::{Config, Round};
 use sip_text::Series;
 use std::alloc::Global;
 use std::fs;
-use test_examples::Stop;
 
 /// The name of the script of forty transactions, in the folder of the cases.
 pub const LONG: &str = "keys/forty-keys";

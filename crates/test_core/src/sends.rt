@@ -3,13 +3,13 @@
 use crate::failing::MOST_TURNS;
 use crate::refusals::{SHARDS, WORKERS};
 use crate::script::Script;
+use crate::stop::{Stop, expect};
 use sip_message::{Addr, Spread};
 use sip_round::{Agent, Event, OpenGate, Round};
 use sip_text::Series;
 use sip_udp::{Outlet, send_all};
 use std::alloc::Global;
 use std::thread::Threads;
-use test_examples::{Stop, expect};
 
 /// After its last round: when all that a script began is over.
 const OVER: [u64; 3] = [100_000, 200_000, 300_000];

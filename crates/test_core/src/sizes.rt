@@ -1,14 +1,16 @@
 //! Large numbers: of what one shard holds, of shards, of workers, and of events in a round.
 
 use crate::faults::of_events;
+use crate::load::{CONFIG, Load, MOST_SHARDS, MOST_WORKERS};
+use crate::loads::LIFE;
+use crate::options::options_of;
+use crate::stop::{Stop, expect};
 use sip_files::read_events;
 use sip_message::Spread;
 use sip_round::{Agent, Event, OpenGate, Output, Round};
 use sip_text::Series;
 use std::alloc::{AllocError, Global};
 use std::thread::Threads;
-use test_examples::loads::LIFE;
-use test_examples::{CONFIG, Load, MOST_SHARDS, MOST_WORKERS, Stop, expect, options_of};
 
 /// How many transactions, and as many calls, are held in one shard.
 const HELD: u64 = 5_000;

@@ -2,13 +2,13 @@
 
 ghost use Rattle.std.specs.Prelude.{◌≤◌, ◌^◌};
 
-use crate::examples::worked::{RESPOND, TOLD, asked, is_line, up};
+use crate::examples::worked::{ID, OPTIONS, PEER, RESPOND, TOLD, asked, is_line, up};
+use crate::stop::{Stop, broken_where, check};
 use sip_calls::CallShard;
 use sip_message::Id;
 use sip_transactions::{Command, ShardFault};
 use sip_user::{CallOut, Item};
 use std::alloc::Global;
-use test_examples::{ID, OPTIONS, PEER, Stop, broken_where, check};
 
 /// The event of a 200.
 const LATER: Id = Id { round: 1, place: 1 };

@@ -1,7 +1,9 @@
 //! Event files, output files, and what is sent.
 
-use crate::examples::worked::{CONFIG, EVENTS, OUTPUTS};
+use crate::examples::worked::{CONFIG, EVENTS, OUTPUTS, PEER};
 use crate::faults::{of_events, of_replay};
+use crate::often::token;
+use crate::stop::{Stop, check};
 use sip_files::{FileKind, read_command_line, read_events, replay, write_head, write_round};
 use sip_message::{Addr, Key, Spread};
 use sip_round::{Event, OpenGate, Output, PlacedOutput, Round};
@@ -10,7 +12,6 @@ use sip_udp::{Outlet, send_all};
 use sip_user::UserCommand;
 use std::alloc::{AllocError, Global};
 use std::thread::Threads;
-use test_examples::{PEER, Stop, check, token};
 
 /// The lines before the first round, with all that may stand there.
 const HEAD: &[u8] = b"sip-events 2

@@ -1,7 +1,8 @@
 //! The heads of texts, whether they spell a message or not, and what a host reads from a datagram.
 
-use crate::examples::worked::CONFIG;
+use crate::examples::worked::{CONFIG, PEER};
 use crate::faults::of_host;
+use crate::stop::{Stop, broken_where, check};
 use sip_files::write_header_line;
 use sip_host::{Host, HostFault};
 use sip_message::{Id, Token};
@@ -9,7 +10,6 @@ use sip_reader::{FirstLine, HeaderLine, header_lines, header_values, start_line}
 use sip_round::{Event, RoundFault};
 use sip_text::Text;
 use std::alloc::Global;
-use test_examples::{PEER, Stop, broken_where, check};
 
 /// It isn't a message: it has no Via, and one of its lines isn't a header line.
 const TEXT: &[u8] =

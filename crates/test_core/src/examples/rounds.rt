@@ -2,16 +2,16 @@
 
 ghost use Rattle.std.specs.Prelude.{◌<◌, ◌≤◌};
 
-use crate::examples::worked::{EVENTS, OUTPUTS};
+use crate::examples::worked::{EVENTS, OPTIONS, OUTPUTS, PEER};
 use crate::faults::of_events;
 use crate::refusals::{SHARDS, WORKERS, has_left, outputs_of};
+use crate::stop::{Stop, broken_where, check};
 use sip_files::{read_events, write_outputs};
 use sip_message::Spread;
 use sip_round::{Agent, Event, OpenGate, Output, PlacedOutput, Round, RoundFault, run};
 use sip_text::{Series, Text};
 use std::alloc::Global;
 use std::thread::Threads;
-use test_examples::{OPTIONS, PEER, Stop, broken_where, check};
 
 /// The event file of an INVITE, without an answer.
 const INVITE: &[u8] = b"sip-events 1

@@ -2,12 +2,13 @@
 
 ghost use Rattle.std.specs.Prelude.{◌≤◌, ◌^◌};
 
-use crate::examples::worked::{RESPOND, TOLD, asked, is_line, up};
+use crate::examples::worked::{ID, OPTIONS, RESPOND, TOLD, asked, is_line, up};
+use crate::often::{TAG, token};
+use crate::stop::{Stop, broken_where, check};
 use sip_served::Served;
 use sip_transactions::ShardFault;
 use sip_user::{CallOut, Item};
 use std::alloc::Global;
-use test_examples::{ID, OPTIONS, Stop, TAG, broken_where, check, token};
 
 /// A tick at this moment does nothing more, because the request has ended.
 const LATE: u64 = 99_000;

@@ -1,14 +1,51 @@
-//! Event files and parts that several examples use.
+//! Messages, addresses and event files that several examples use.
 
 use crate::faults::of_events;
+use crate::often::message;
+use crate::stop::{Stop, check};
 use sip_files::{FileKind, read_command_line, write_output};
-use sip_message::{Message, key_of};
+use sip_message::{Addr, Id, Message, SharedKey, key_of};
 use sip_round::{Config, Output};
 use sip_text::Boxed;
 use sip_transactions::{Up, UpKind};
 use sip_user::{CallOut, Item};
 use std::alloc::Global;
-use test_examples::{ID, LOCAL, PEER, Stop, check, message};
+
+/// The agent's own address.
+pub const LOCAL: Addr = Addr {
+    ip: [192, 0, 2, 1],
+    port: 5060,
+};
+
+/// The address of the peer.
+pub const PEER: Addr = Addr {
+    ip: [192, 0, 2, 9],
+    port: 5060,
+};
+
+/// The first event of the first round.
+pub const ID: Id = Id { round: 0, place: 1 };
+
+/// A request that comes to the agent.
+pub const OPTIONS: &[u8] = b"OPTIONS sip:192.0.2.1 SIP/2.0\r
+Via: SIP/2.0/UDP 192.0.2.9;branch=z9hG4bKa1\r
+From: <sip:a@192.0.2.9>;tag=f1\r
+To: <sip:192.0.2.1>\r
+Call-ID: c1\r
+CSeq: 7 OPTIONS\r
+\r
+";
+
+/// Its answer.
+pub const OK: &[u8] = b"SIP/2.0 200 OK\r
+Via: SIP/2.0/UDP 192.0.2.9;branch=z9hG4bKa1\r
+From: <sip:a@192.0.2.9>;tag=f1\r
+To: <sip:192.0.2.1>;tag=000000000000000000000000000000010bee7079f\r
+Call-ID: c1\r
+CSeq: 7 OPTIONS\r
+Content-Length: 0\r
+\r
+";
 
 pub const SEED: [u8; 32] = [0; 32];
 
@@ -85,4 +122,9 @@ pub fn is_line(alloc: Global, mut outs: Vec<CallOut>, line: &[u8]) -> Result<(),
 
 fn is_written_as(alloc: Global, output: &Output, line: &[u8]) -> Result<(), Stop> {
     check(write_output(alloc, output)?.as_slice() == line)
+}
+
+/// The key of the message that a text spells.
+pub fn key_in(alloc: Global, text: &[u8]) -> Result<SharedKey, Stop> {
+    Ok(key_of(alloc, &message(alloc, text)?)?)
 }

@@ -1,7 +1,7 @@
 -- The law `names_of_agents_differ`.
 use Rattle.std.proofs.Common.{ap}
 use Rattle.sip_clients.proofs.Names.{names_differ}
-use Rattle.sip_agents.specs.Laws.{agent_of_id}
+use Rattle.sip_agents.specs.Stripes.{agent_of_id}
 use Rattle.sip_agents.proofs.laws.names_of_agents_differ.Goals as goal
 
 pub returns : goal.returns

@@ -1,5 +1,0 @@
-pub mod Cutting
-pub mod Dues
-pub mod Ends
-pub mod Joining
-pub mod Turns

@@ -1,3 +1,0 @@
--- Steps that only the proofs of the code need: there is nothing in them to believe.
-pub mod Put
-pub mod Ran
