@@ -76,19 +76,10 @@ fn listen_by<'a, T: Threads + Host, N: Write + Send + Drop + 'static, E: Write>(
         shards,
         workers,
     };
-    let turns = words.length.turns();
-    endpoint.is_announced = turns > 0;
+    endpoint.turns = words.length.turns();
+    endpoint.is_announced = endpoint.turns > 0;
     let (mut notices, others) = notice_writers(rt, alloc, stream, words.agents - 1)?;
-    let end = listen_at(
-        rt,
-        alloc,
-        endpoint,
-        plan,
-        turns,
-        &mut notices,
-        others,
-        errors,
-    );
+    let end = listen_at(rt, alloc, endpoint, plan, &mut notices, others, errors);
     ended(end, notices.finish(rt), errors)
 }
 
@@ -102,9 +93,9 @@ fn call_by<'a, T: Threads + Host, N: Write + Send + Drop + 'static, E: Write>(
     let plan = plan_of(rt, alloc, words)?;
     let mut endpoint = endpoint_of_turns(rt, alloc, words.own, words.length, words.drops)?;
     keep_call(&mut endpoint, words.own)?;
-    let turns = words.length.turns();
+    endpoint.turns = words.length.turns();
     let mut notices = notice_writer(rt, alloc, stream)?;
-    let end = call_from(rt, alloc, endpoint, plan, turns, &mut notices, errors);
+    let end = call_from(rt, alloc, endpoint, plan, &mut notices, errors);
     ended(end, notices.finish(rt), errors)
 }
 

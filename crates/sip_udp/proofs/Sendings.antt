@@ -10,7 +10,7 @@ use Rattle.sip_round.specs.declared.output.Output.TheVariants as output
 use Rattle.sip_round.specs.declared.output.PlacedOutput.{PlacedOutput}
 use Rattle.sip_round.specs.declared.round.Event.{Event}
 use Rattle.sip_udp.specs.declared.outlet.Asked.{Asked}
-use Rattle.sip_udp.specs.Prepared.{prepared}
+use Rattle.sip_udp.specs.Prepared.{key_of}
 use Rattle.sip_udp.specs.Sending.{Asks, SendsAll, calls_for, failure_of, failures_of}
 
 nothing_asked : (now : Option (List Asked)) → Asks now now []
@@ -27,13 +27,13 @@ asked_more (Some before) b c xs ys p q =
 abbrev pub output_of : PlacedOutput → Output
 output_of placed = placed.output
 
--- after some of the outputs: these outputs and their failures are left, and there is room for all
--- of the failures
+-- after some of the outputs: these outputs and their keys are left, and there is room for all of the
+-- failures
 pub record SoFar (old now : Option (List Asked)) (outputs left : List PlacedOutput)
-    (failures : List (Option Event)) (failed : List Event) (capacity : ℕ) : Type 0 where
+    (keys : List (Option Key)) (failed : List Event) (capacity : ℕ) : Type 0 where
   pub done : List PlacedOutput
   pub split : outputs ≡ done ++ left
-  pub ready : failures ≡ map (λ placed. prepared placed.output) left
+  pub ready : keys ≡ map (λ placed. key_of placed.output) left
   pub sent : SendsAll old now (map output_of done) failed
   pub room : length failed + length left ≤ capacity
 
@@ -62,11 +62,11 @@ one_more old now next done failed output is_sent s asks =
     }
 
 pub begun : (now : Option (List Asked)) (outputs : List PlacedOutput)
-    (failures : List (Option Event)) (failed : List Event) (capacity : ℕ)
-    → failures ≡ map (λ placed. prepared placed.output) outputs → failed ≡ []
+    (keys : List (Option Key)) (failed : List Event) (capacity : ℕ)
+    → keys ≡ map (λ placed. key_of placed.output) outputs → failed ≡ []
     → length outputs ≤ capacity
-    → SoFar now now outputs outputs failures failed capacity
-begun now outputs failures failed capacity ready none room =
+    → SoFar now now outputs outputs keys failed capacity
+begun now outputs keys failed capacity ready none room =
     record {
       done = [];
       split = refl;
@@ -91,21 +91,21 @@ few (output.Notice notice) is_sent = omega arith
 
 -- the first of what is left was sent
 pub goes_on : (old now next : Option (List Asked)) (outputs left rest : List PlacedOutput)
-    (failures more : List (Option Event)) (failed after : List Event) (capacity : ℕ)
-    (placed : PlacedOutput) (failure : Option Event) (is_sent : Bool)
-    → SoFar old now outputs left failures failed capacity → left ≡ placed ∷ rest
-    → failures ≡ failure ∷ more
+    (keys more : List (Option Key)) (failed after : List Event) (capacity : ℕ)
+    (placed : PlacedOutput) (key : Option Key) (is_sent : Bool)
+    → SoFar old now outputs left keys failed capacity → left ≡ placed ∷ rest
+    → keys ≡ key ∷ more
     → Asks now next (calls_for (placed.output, is_sent))
     → after ≡ failed ++ failures_of (placed.output, is_sent)
     → SoFar old next outputs rest more after capacity
-goes_on old now next outputs left rest failures more failed after capacity placed failure is_sent s
-    cut first asks told =
+goes_on old now next outputs left rest keys more failed after capacity placed key is_sent s cut
+    first asks told =
     let output : Output = placed.output in
     record {
       done = s.done ++ placed ∷ [];
       split = s.split ∙ ap (λ xs. s.done ++ xs) cut ∙ sym (append_assoc s.done (placed ∷ []) rest);
       ready = tail_of _ _ _ _
-          (sym first ∙ s.ready ∙ ap (map (λ placed. prepared placed.output)) cut);
+          (sym first ∙ s.ready ∙ ap (map (λ placed. key_of placed.output)) cut);
       sent = rw (told, map-append output_of s.done (placed ∷ []))
           (one_more old now next (map output_of s.done) failed output is_sent s.sent asks);
       room =
@@ -116,8 +116,8 @@ goes_on old now next outputs left rest failures more failed after capacity place
     }
 
 pub all_sent : (old now : Option (List Asked)) (outputs left : List PlacedOutput)
-    (failures : List (Option Event)) (failed : List Event) (capacity : ℕ)
-    → SoFar old now outputs left failures failed capacity → left ≡ []
+    (keys : List (Option Key)) (failed : List Event) (capacity : ℕ)
+    → SoFar old now outputs left keys failed capacity → left ≡ []
     → SendsAll old now (map output_of outputs) failed
-all_sent old now outputs left failures failed capacity s none =
+all_sent old now outputs left keys failed capacity s none =
     rw (s.split ∙ ap (λ xs. s.done ++ xs) none ∙ append-nil s.done) s.sent

@@ -1,13 +1,11 @@
--- What is made before the first send: for each output, the event that reports its failure.
+-- What is made before the first send: for each output, the key under which its failure is reported.
 use Rattle.std.specs.Prelude.{Option, None}
-use Rattle.std.specs.Option.{option_map}
+use Rattle.sip_message.specs.declared.key.Key.{Key}
 use Rattle.sip_round.specs.declared.output.Output.{Output}
 use Rattle.sip_round.specs.declared.output.Output.TheVariants as output
-use Rattle.sip_round.specs.declared.round.Event.{Event}
-use Rattle.sip_round.specs.declared.round.Event.TheVariants as event
 
--- the event that reports that the output couldn't be sent
-abbrev pub prepared : Output → Option Event
-prepared (output.Send key to bytes) = option_map (λ key. event.Failed key) key
-prepared (output.Dropped place reason) = None
-prepared (output.Notice notice) = None
+-- only a Send of a transaction has one
+abbrev pub key_of : Output → Option Key
+key_of (output.Send key to bytes) = key
+key_of (output.Dropped place reason) = None
+key_of (output.Notice notice) = None

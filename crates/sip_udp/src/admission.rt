@@ -46,7 +46,10 @@ impl Admission {
     pub(crate) fn shed(self) -> Option<u64>
         ensures { result ≡ option_map (λ most. self.shed) self.most }
     {
-        self.most.map(|_| self.shed)
+        match self.most {
+            Some(_) => Some(self.shed),
+            None => None,
+        }
     }
 
     /// The events without the datagrams that are shed.

@@ -9,68 +9,72 @@ use sip_text::{Series, Text};
 use sip_user::{Reliability, Respond, UserCommand};
 use std::alloc::{AllocError, Global};
 
-const RINGING_STATUS: u16 = 180;
+pub(crate) const RINGING: u16 = 180;
 
-const SESSION_PROGRESS: u16 = 183;
+pub(crate) const SESSION_PROGRESS: u16 = 183;
 
 pub(crate) const SUCCESS: u16 = 200;
 
-const TEMPORARILY_UNAVAILABLE: u16 = 480;
+pub(crate) const TEMPORARILY_UNAVAILABLE: u16 = 480;
 
 const NOT_ACCEPTABLE_HERE: u16 = 488;
 
 const NOT_IMPLEMENTED: u16 = 501;
 
-/// 200 to BYE and OPTIONS, 488 to INVITE, and 501 to all other requests.
-pub(crate) fn answer(
-    alloc: Global,
-    call_id: &CallId,
-    id: Id,
-    method: &[u8],
-) -> Result<Event, AllocError> {
-    let status = if method == b"BYE".as_slice() || method == b"OPTIONS".as_slice() {
+/// The status of the answer to a request with this method: 200 for BYE and OPTIONS, 488 for INVITE,
+/// and 501 for all others.
+pub(crate) fn status_for(method: &[u8]) -> u16 {
+    if method == b"BYE".as_slice() || method == b"OPTIONS".as_slice() {
         SUCCESS
     } else if method == b"INVITE".as_slice() {
         NOT_ACCEPTABLE_HERE
     } else {
         NOT_IMPLEMENTED
+    }
+}
+
+/// Asks for a response with this status, with the usual reason and without a body.
+///
+/// # Errors
+///
+/// Memory ran out.
+pub(crate) fn respond(
+    alloc: Global,
+    call_id: &CallId,
+    id: Id,
+    status: u16,
+    events: &mut Vec<Event>,
+) -> Result<(), AllocError> {
+    let content = nothing(alloc);
+    let reliability = Reliability::Plain;
+    respond_with(alloc, call_id, id, status, reliability, content, events)
+}
+
+/// Asks for a response with this status and content, with the usual reason.
+///
+/// # Errors
+///
+/// Memory ran out.
+pub(crate) fn respond_with(
+    alloc: Global,
+    call_id: &CallId,
+    id: Id,
+    status: u16,
+    reliability: Reliability,
+    content: Content,
+    events: &mut Vec<Event>,
+) -> Result<(), AllocError> {
+    let reason = usual_reason(alloc, status)?;
+    let respond = Respond {
+        call_id: call_id.clone()?,
+        id,
+        status,
+        reliability,
+        content,
+        reason,
     };
-    plain(alloc, call_id, id, status)
-}
-
-/// 180 Ringing.
-pub(crate) fn ringing(alloc: Global, call_id: &CallId, id: Id) -> Result<Event, AllocError> {
-    plain(alloc, call_id, id, RINGING_STATUS)
-}
-
-/// 183 Session Progress, which its caller has to acknowledge (RFC 3262, section 3).
-pub(crate) fn progress(alloc: Global, call_id: &CallId, id: Id) -> Result<Event, AllocError> {
-    let status = SESSION_PROGRESS;
-    respond(
-        alloc,
-        call_id,
-        id,
-        status,
-        Reliability::Reliable,
-        nothing(alloc),
-    )
-}
-
-/// 480 Temporarily Unavailable.
-pub(crate) fn unavailable(alloc: Global, call_id: &CallId, id: Id) -> Result<Event, AllocError> {
-    plain(alloc, call_id, id, TEMPORARILY_UNAVAILABLE)
-}
-
-// A plain response with this status and no body.
-fn plain(alloc: Global, call_id: &CallId, id: Id, status: u16) -> Result<Event, AllocError> {
-    respond(
-        alloc,
-        call_id,
-        id,
-        status,
-        Reliability::Plain,
-        nothing(alloc),
-    )
+    events.push(Event::Command(UserCommand::Respond(respond)))?;
+    Ok(())
 }
 
 /// This Contact, and no body.
@@ -90,30 +94,15 @@ pub(crate) fn contact(alloc: Global, uri: Uri) -> Result<Content, AllocError> {
     Content::new(alloc, headers, Text::from_vec(Vec::new(alloc)))
 }
 
-/// A response with this status, with the usual reason.
-pub(crate) fn respond(
-    alloc: Global,
-    call_id: &CallId,
-    id: Id,
-    status: u16,
-    reliability: Reliability,
-    content: Content,
-) -> Result<Event, AllocError> {
-    let reason = Reason::new(Text::copy_of(alloc, reason_of(status))?);
-    Ok(Event::Command(UserCommand::Respond(Respond {
-        call_id: call_id.clone()?,
-        id,
-        status,
-        reliability,
-        content,
-        reason: reason.unwrap_or(Reason::nothing(alloc)),
-    })))
+fn usual_reason(alloc: Global, status: u16) -> Result<Reason, AllocError> {
+    let text = Text::copy_of(alloc, reason_of(status))?;
+    Ok(Reason::new(text).unwrap_or(Reason::nothing(alloc)))
 }
 
 // The reason that RFC 3261, section 21, gives for a status; empty for those not used here.
 fn reason_of(status: u16) -> &'static [u8] {
     match status {
-        RINGING_STATUS => b"Ringing",
+        RINGING => b"Ringing",
         SESSION_PROGRESS => b"Session Progress",
         SUCCESS => b"OK",
         300 => b"Multiple Choices",

@@ -1,6 +1,8 @@
 //! The user of `listen`.
 
-use crate::answer::{answer, contact, progress, respond, ringing, unavailable};
+use crate::answer::{
+    RINGING, SESSION_PROGRESS, TEMPORARILY_UNAVAILABLE, contact, respond, respond_with, status_for,
+};
 use crate::hang_up::nothing;
 use crate::made_dialogs::MadeDialogs;
 use crate::shared_plan::SharedPlan;
@@ -59,23 +61,20 @@ impl Answering {
         tags: (&Text, &Text),
         events: &mut Vec<Event>,
     ) -> Result<(), AllocError> {
-        let Unanswered { call_id, id, .. } = &invite;
         if self.is_leaving {
-            events.push(unavailable(alloc, call_id, *id)?)?;
-            return Ok(());
+            return invite.refuse(alloc, events);
         }
-        if let Some(before) = self.dialogs.re_invited(call_id, tags) {
+        if let Some(before) = self.dialogs.re_invited(&invite.call_id, tags) {
             invite.before = before;
-            events.push(self.final_answer(alloc, &invite)?)?;
-            return Ok(());
+            return self.answer(alloc, &invite, events);
         }
         if self.shared.plan.makes_dialogs() {
-            self.dialogs.add(alloc, call_id, *id, tags)?;
+            self.dialogs.add(alloc, &invite.call_id, invite.id, tags)?;
         }
         if !self.shared.plan.reliable {
             return self.alert(alloc, now, invite, events);
         }
-        events.push(progress(alloc, call_id, *id)?)?;
+        invite.progress(alloc, events)?;
         self.unanswered.push(invite)?;
         Ok(())
     }
@@ -89,10 +88,9 @@ impl Answering {
         events: &mut Vec<Event>,
     ) -> Result<(), AllocError> {
         let Some(ring) = self.shared.plan.ring else {
-            events.push(self.final_answer(alloc, &invite)?)?;
-            return Ok(());
+            return self.answer(alloc, &invite, events);
         };
-        events.push(ringing(alloc, &invite.call_id, invite.id)?)?;
+        respond(alloc, &invite.call_id, invite.id, RINGING, events)?;
         invite.due = Some(now.saturating_add(u64::from(ring)));
         self.unanswered.push(invite)?;
         Ok(())
@@ -117,19 +115,26 @@ impl Answering {
     fn leave(&mut self, alloc: Global, events: &mut Vec<Event>) -> Result<(), AllocError> {
         self.is_leaving = true;
         for one in mem::replace(&mut self.unanswered, Vec::new(alloc)) {
-            events.push(unavailable(alloc, &one.call_id, one.id)?)?;
+            one.refuse(alloc, events)?;
         }
         self.dialogs.hang_up(alloc, events)
     }
 
-    fn final_answer(&mut self, alloc: Global, invite: &Unanswered) -> Result<Event, AllocError> {
+    // Gives an INVITE its final response.
+    fn answer(
+        &mut self,
+        alloc: Global,
+        invite: &Unanswered,
+        events: &mut Vec<Event>,
+    ) -> Result<(), AllocError> {
         if invite.before == 0 && self.shared.plan.makes_dialogs() {
             self.shared.count_answered();
         }
         let Unanswered { call_id, id, .. } = invite;
         let status = self.shared.plan.status;
         let content = self.content(alloc, invite)?;
-        respond(alloc, call_id, *id, status, Reliability::Plain, content)
+        let reliability = Reliability::Plain;
+        respond_with(alloc, call_id, *id, status, reliability, content, events)
     }
 
     // What a final response has besides its status: a 2xx has the body.
@@ -170,6 +175,37 @@ impl Answering {
 }
 
 impl Unanswered {
+    fn new(call_id: &CallId, id: Id, body: &Text) -> Result<Unanswered, AllocError> {
+        let call_id = call_id.clone()?;
+        Ok(Unanswered {
+            call_id,
+            id,
+            offer: body.clone()?,
+            before: 0,
+            due: None,
+        })
+    }
+
+    // Asks for a 183, which the caller has to acknowledge (RFC 3262, section 3).
+    fn progress(&self, alloc: Global, events: &mut Vec<Event>) -> Result<(), AllocError> {
+        let Unanswered { call_id, id, .. } = self;
+        let content = nothing(alloc);
+        let reliability = Reliability::Reliable;
+        let status = SESSION_PROGRESS;
+        respond_with(alloc, call_id, *id, status, reliability, content, events)
+    }
+
+    // Nobody answers any more.
+    fn refuse(&self, alloc: Global, events: &mut Vec<Event>) -> Result<(), AllocError> {
+        respond(
+            alloc,
+            &self.call_id,
+            self.id,
+            TEMPORARILY_UNAVAILABLE,
+            events,
+        )
+    }
+
     fn is_meant(&self, call_id: &CallId, id: Option<Id>) -> bool {
         match id {
             Some(id) => self.id == id,
@@ -201,18 +237,11 @@ impl User for Answering {
             } => {
                 let method = method.as_slice();
                 if method == b"INVITE".as_slice() {
-                    let invite = Unanswered {
-                        call_id: call_id.clone()?,
-                        id: *id,
-                        offer: body.clone()?,
-                        before: 0,
-                        due: None,
-                    };
+                    let invite = Unanswered::new(call_id, *id, body)?;
                     let tags = (local_tag, remote_tag);
                     return self.invited(alloc, now, invite, tags, events);
                 }
-                events.push(answer(alloc, call_id, *id, method)?)?;
-                Ok(())
+                respond(alloc, call_id, *id, status_for(method), events)
             }
             Notice::Prack { call_id, id, .. } | Notice::NoPrack { call_id, id } => {
                 self.go_on(alloc, now, call_id, Some(*id), events)
@@ -255,7 +284,7 @@ impl User for Answering {
         for one in mem::replace(&mut self.unanswered, Vec::new(alloc)) {
             match one.due {
                 Some(due) if due <= now => {
-                    events.push(self.final_answer(alloc, &one)?)?;
+                    self.answer(alloc, &one, events)?;
                 }
                 _ => self.unanswered.push(one)?,
             }

@@ -42,31 +42,33 @@ impl CallPlan {
     }
 
     /// The INVITE, with this URI in From.
-    pub(crate) fn invite(self, alloc: Global, from: Uri) -> Result<Invite, AllocError> {
-        let CallPlan {
-            to: address,
-            uri,
-            call_id,
-            body,
-            is_reliable,
-            hold: _,
-            leaves: _,
-            must_answer: _,
-        } = self;
+    ///
+    /// # Errors
+    ///
+    /// Memory ran out.
+    pub(crate) fn invite(&self, alloc: Global, from: Uri) -> Result<Invite, AllocError> {
+        let call_id = self.call_id.clone()?;
+        let request_uri = self.uri.clone()?;
+        let to = self.uri.clone()?;
+        let body = self.body.clone()?;
         Ok(Invite {
             call_id,
-            address,
-            request_uri: uri.clone()?,
+            address: self.to,
+            request_uri,
             from,
-            to: uri,
+            to,
             routes: Series::new(alloc),
-            support: if is_reliable {
-                ProvisionalSupport::Supported
-            } else {
-                ProvisionalSupport::None
-            },
+            support: self.support(),
             content: Content::of_body(body),
         })
+    }
+
+    fn support(&self) -> ProvisionalSupport {
+        if self.is_reliable {
+            ProvisionalSupport::Supported
+        } else {
+            ProvisionalSupport::None
+        }
     }
 }
 

@@ -1,15 +1,15 @@
 //! The user of `call`.
 
-use crate::answer::answer;
+use crate::answer::{respond, status_for};
 use crate::call_plan::CallPlan;
-use crate::hang_up::bye;
+use crate::hang_up::end_dialog;
 use crate::sdp;
 use crate::time_limit::TimeLeft;
 use crate::user::User;
-use sip_message::{CallId, Content, Id, StatusCode, Token, Uri};
+use sip_message::{Addr, Content, Id, StatusCode, Token, Uri, ip_text};
 use sip_round::Event;
 use sip_text::Text;
-use sip_user::{Cancel, DialogBody, Invite, Notice, UserCommand};
+use sip_user::{Cancel, DialogBody, Notice, UserCommand};
 use std::alloc::{AllocError, Global};
 use std::io::Write;
 
@@ -46,46 +46,24 @@ struct Up {
 /// says so; after the end of the input this is always done.
 #[derive(Drop)]
 pub(crate) struct Calling {
-    // The agent's own IP address.
-    ip: [u8; 4],
-    // The INVITE, until it is sent.
-    invite: Option<Invite>,
-    call_id: CallId,
-    // Whether the INVITE has a body. That is an offer, and the body of its 2xx is the answer.
-    has_offer: bool,
-    // Whether provisional responses to the INVITE may be reliable.
-    is_reliable: bool,
-    hold: Option<u32>,
+    // The agent's own address.
+    local: Addr,
+    plan: CallPlan,
+    // Whether the call is ended in the last second.
     leaves: bool,
-    must_answer: bool,
     stage: Stage,
     up: Option<Up>,
 }
 
 impl Calling {
-    pub(crate) fn new(
-        alloc: Global,
-        ip: [u8; 4],
-        plan: CallPlan,
-        from: Uri,
-    ) -> Result<Calling, AllocError> {
-        let hold = plan.hold;
-        let leaves = plan.leaves;
-        let must_answer = plan.must_answer;
-        let is_reliable = plan.is_reliable;
-        let invite = plan.invite(alloc, from)?;
-        Ok(Calling {
-            ip,
-            call_id: invite.call_id.clone()?,
-            has_offer: !invite.content.body().is_empty(),
-            is_reliable,
-            invite: Some(invite),
-            hold,
-            leaves,
-            must_answer,
+    pub(crate) fn new(local: Addr, plan: CallPlan) -> Calling {
+        Calling {
+            local,
+            leaves: plan.leaves,
+            plan,
             stage: Stage::Asked,
             up: None,
-        })
+        }
     }
 
     // A final response to the INVITE came, with this status.
@@ -106,10 +84,9 @@ impl Calling {
         let former = self.stage;
         self.stage = Stage::Answered;
         if self.is_offered(body) {
-            let answer = self.offer_answer(alloc, local_tag, remote_tag, body)?;
-            events.push(Event::Command(UserCommand::Ack(answer)))?;
+            self.answer_offer(alloc, status, local_tag, remote_tag, body, events)?;
         }
-        match self.hold {
+        match self.plan.hold {
             Some(hold) if former == Stage::Asked => {
                 self.up = Some(Up {
                     local_tag: local_tag.clone()?,
@@ -117,31 +94,57 @@ impl Calling {
                     due: now.saturating_add(u64::from(hold)),
                 });
             }
-            _ => events.push(bye(alloc, &self.call_id, local_tag, remote_tag)?)?,
+            _ => return end_dialog(alloc, &self.plan.call_id, local_tag, remote_tag, events),
         }
         Ok(())
     }
 
-    // Whether the body of a response is an offer.
+    // Whether the body of a response is an offer. If the INVITE has a body, that is the offer, and
+    // the body of its 2xx is the answer.
     fn is_offered(&self, body: &Text) -> bool {
-        !body.is_empty() && !self.has_offer
+        !body.is_empty() && self.plan.body.is_empty()
     }
 
-    // The answer to the offer of a response with these tags.
-    fn offer_answer(
+    // Answers the offer of a response with these tags: in the ACK of a final one, or in the PRACK
+    // of a provisional one.
+    fn answer_offer(
         &self,
         alloc: Global,
+        status: StatusCode,
         local_tag: &Text,
         remote_tag: &Text,
         offer: &Text,
-    ) -> Result<DialogBody, AllocError> {
-        let answer = sdp::inactive(alloc, self.ip, 0, offer.as_slice())?;
-        Ok(DialogBody {
-            call_id: self.call_id.clone()?,
-            local_tag: Token::new(local_tag.clone()?),
-            remote_tag: Token::new(remote_tag.clone()?),
+        events: &mut Vec<Event>,
+    ) -> Result<(), AllocError> {
+        let call_id = self.plan.call_id.clone()?;
+        let local_tag = Token::new(local_tag.clone()?);
+        let remote_tag = Token::new(remote_tag.clone()?);
+        let answer = sdp::inactive(alloc, self.local.ip, 0, offer.as_slice())?;
+        let body = DialogBody {
+            call_id,
+            local_tag,
+            remote_tag,
             content: Content::of_body(answer),
-        })
+        };
+        let command = if is_final(status) {
+            UserCommand::Ack(body)
+        } else {
+            UserCommand::Prack(body)
+        };
+        events.push(Event::Command(command))?;
+        Ok(())
+    }
+
+    // Cancels the INVITE.
+    fn cancel(&mut self, events: &mut Vec<Event>) -> Result<(), AllocError> {
+        self.stage = Stage::Cancelled;
+        let call_id = self.plan.call_id.clone()?;
+        let cancel = Cancel {
+            call_id,
+            id: INVITE,
+        };
+        events.push(Event::Command(UserCommand::Cancel(cancel)))?;
+        Ok(())
     }
 
     // If no answer has come so far, none will come.
@@ -164,10 +167,10 @@ impl Calling {
 }
 
 impl User for Calling {
-    fn begin(&mut self, _alloc: Global, events: &mut Vec<Event>) -> Result<(), AllocError> {
-        if let Some(invite) = self.invite.take() {
-            events.push(Event::Command(UserCommand::Invite(invite)))?;
-        }
+    fn begin(&mut self, alloc: Global, events: &mut Vec<Event>) -> Result<(), AllocError> {
+        let from = own_uri(alloc, self.local)?;
+        let invite = self.plan.invite(alloc, from)?;
+        events.push(Event::Command(UserCommand::Invite(invite)))?;
         Ok(())
     }
 
@@ -184,7 +187,7 @@ impl User for Calling {
                 id,
                 method,
                 ..
-            } => events.push(answer(alloc, call_id, *id, method.as_slice())?)?,
+            } => respond(alloc, call_id, *id, status_for(method.as_slice()), events)?,
             Notice::Response {
                 id,
                 status,
@@ -192,18 +195,18 @@ impl User for Calling {
                 remote_tag,
                 body,
                 ..
-            } if *id == INVITE && status.code() >= 200 => {
+            } if *id == INVITE && is_final(*status) => {
                 self.answered(alloc, now, *status, local_tag, remote_tag, body, events)?;
             }
             Notice::Response {
                 id,
+                status,
                 local_tag,
                 remote_tag,
                 body,
                 ..
-            } if *id == INVITE && self.is_reliable && self.is_offered(body) => {
-                let answer = self.offer_answer(alloc, local_tag, remote_tag, body)?;
-                events.push(Event::Command(UserCommand::Prack(answer)))?;
+            } if *id == INVITE && self.plan.is_reliable && self.is_offered(body) => {
+                self.answer_offer(alloc, *status, local_tag, remote_tag, body, events)?;
             }
             Notice::Timeout { id, .. } | Notice::Failed { id, .. } if *id == INVITE => {
                 self.refused();
@@ -228,14 +231,11 @@ impl User for Calling {
         self.leaves = self.leaves || left == TimeLeft::InputEnded;
         let is_leaving = self.leaves && left != TimeLeft::More;
         if let Some(up) = self.due_dialog(now, is_leaving) {
-            events.push(bye(alloc, &self.call_id, &up.local_tag, &up.remote_tag)?)?;
+            let call_id = &self.plan.call_id;
+            end_dialog(alloc, call_id, &up.local_tag, &up.remote_tag, events)?;
         }
         if is_leaving && self.stage == Stage::Asked {
-            self.stage = Stage::Cancelled;
-            events.push(Event::Command(UserCommand::Cancel(Cancel {
-                call_id: self.call_id.clone()?,
-                id: INVITE,
-            })))?;
+            return self.cancel(events);
         }
         Ok(())
     }
@@ -249,8 +249,20 @@ impl User for Calling {
     }
 
     fn is_satisfied(&self) -> bool {
-        !self.must_answer || self.stage == Stage::Answered
+        !self.plan.must_answer || self.stage == Stage::Answered
     }
+}
+
+// `sip:ua@` and the local IP.
+fn own_uri(alloc: Global, local: Addr) -> Result<Uri, AllocError> {
+    let [_a, _b, _c, _d] = local.ip;
+    let mut text = Text::copy_of(alloc, b"sip:ua@")?;
+    text.extend_from_slice(&ip_text(local.ip))?;
+    Ok(Uri::from_text(text))
+}
+
+fn is_final(status: StatusCode) -> bool {
+    status.code() >= 200
 }
 
 fn is_success(status: StatusCode) -> bool {

@@ -158,18 +158,19 @@ impl fmt::Display for Counts {
             "local {local}, {rounds} rounds, {datagrams} datagrams read, {keep_alives} keep-alives"
         )?;
         for dropped in &self.dropped {
-            let Dropped { reason, count } = dropped;
-            match reason {
-                DropReason::NotOurs => write!(f, ", {count} dropped as NotOurs")?,
-                DropReason::NoTransaction => write!(f, ", {count} dropped as NoTransaction")?,
-                DropReason::Unreadable(fault) => write!(f, ", {count} dropped as {fault}")?,
-            }
+            dropped.write(f)?;
         }
-        let Losses {
-            unsent,
-            unposted,
-            by_system,
-        } = self.losses;
+        self.write_sent(f)?;
+        write_if_counted(f, self.losses.by_system, "lost by the system")?;
+        write_if_counted(f, self.shed, "shed")
+    }
+}
+
+impl Counts {
+    // What was sent, and what came of it.
+    fn write_sent<W: fmt::Write>(&self, f: &mut fmt::Formatter<W>) -> fmt::Result {
+        let unsent = self.losses.unsent;
+        let unposted = self.losses.unposted;
         let sent = self.asked.saturating_sub(unsent);
         let again = self.again;
         let outcomes = &self.outcomes;
@@ -178,13 +179,28 @@ impl fmt::Display for Counts {
             f,
             ", {sent} sent, {unsent} failed, {again} again, {outcomes}, {most_held} held at most, \
             {unposted} lost"
-        )?;
-        if let Some(count) = by_system {
-            write!(f, ", {count} lost by the system")?;
+        )
+    }
+}
+
+impl Dropped {
+    fn write<W: fmt::Write>(&self, f: &mut fmt::Formatter<W>) -> fmt::Result {
+        let count = self.count;
+        match self.reason {
+            DropReason::NotOurs => write!(f, ", {count} dropped as NotOurs"),
+            DropReason::NoTransaction => write!(f, ", {count} dropped as NoTransaction"),
+            DropReason::Unreadable(fault) => write!(f, ", {count} dropped as {fault}"),
         }
-        match self.shed {
-            Some(count) => write!(f, ", {count} shed"),
-            None => Ok(()),
-        }
+    }
+}
+
+fn write_if_counted<W: fmt::Write>(
+    f: &mut fmt::Formatter<W>,
+    count: Option<u64>,
+    counted: &str,
+) -> fmt::Result {
+    match count {
+        Some(count) => write!(f, ", {count} {counted}"),
+        None => Ok(()),
     }
 }

@@ -4,7 +4,10 @@ ghost use Rattle.std.specs.Prelude.{◌≡◌, IfOk, decimal, string_bytes, take
 ghost use Rattle.std.specs.List.{list_all};
 ghost use Rattle.sip_udp.specs.KeepAlive as spec;
 ghost use Rattle.sip_files.specs.Outputs.{reason_text};
+ghost use Rattle.sip_files.specs.Written.{ended_text};
+ghost use Rattle.sip_files.specs.declared.event_line.EventLine.TheVariants as event_line;
 ghost use Rattle.sip_message.specs.Fault.{fault_text};
+ghost use Rattle.sip_round.specs.declared.round.Event.TheVariants as event;
 ghost use Rattle.sip_text.specs.Cut.{cut_at};
 ghost use Rattle.sip_udp.specs.LineEnd.{before_cut, first_line};
 ghost use Rattle.sip_udp.specs.Telling.{dropped_head, dropped_line, told_id};
@@ -60,11 +63,19 @@ pub(crate) fn dropped_line(
 ) -> Result<Vec<u8>, AllocError>
     ensures { IfOk result (λ text. text.items ≡ dropped_line id reason from bytes.now) }
 {
-    let bytes = first_line(alloc, bytes)?;
-    let came = write_event(alloc, &Event::Datagram { from, bytes })?;
     let mut line = head(alloc, id, reason)?;
-    line.extend_from_slice(&came)?;
+    let arrival = arrival_line(alloc, from, bytes)?;
+    line.extend_from_slice(&arrival)?;
     Ok(line)
+}
+
+// The line of the datagram's event, with only its first line.
+fn arrival_line(alloc: Global, from: Addr, bytes: &[u8]) -> Result<Vec<u8>, AllocError>
+    ensures { IfOk result (λ text. text.items
+        ≡ ended_text (event_line.Event (event.Datagram from (first_line bytes.now)))) }
+{
+    let bytes = first_line(alloc, bytes)?;
+    write_event(alloc, &Event::Datagram { from, bytes })
 }
 
 // The line up to its datagram.

@@ -9,7 +9,8 @@ use crate::division::Division;
 use crate::fault::UaFault;
 use crate::input_end::InputEnd;
 use crate::past::Past;
-use crate::record::Keeping;
+use crate::record::{Keeping, Record};
+use crate::record_file::RecordFile;
 use sip_agents::{STRIPE, config_of};
 use sip_files::FileKind;
 use sip_message::Addr;
@@ -18,7 +19,6 @@ use std::net::UdpSocket;
 use std::sync::Arc;
 
 /// What a user agent over UDP needs to run.
-#[derive(Drop)]
 pub struct Endpoint<F> {
     pub socket: UdpSocket,
     /// The configuration with which its agent is started.
@@ -42,6 +42,8 @@ pub struct Endpoint<F> {
     pub tells_drops: bool,
     /// Whether the id of each command is told, before the notices of its round.
     pub tells_ids: bool,
+    /// How many turns of 10 ms `listen` and `call` take at most.
+    pub turns: u64,
     /// After how many seconds the turns end, if at all.
     pub seconds: Option<u32>,
     /// How many transactions are to be held at most, if there is a limit. Above it requests are
@@ -49,6 +51,28 @@ pub struct Endpoint<F> {
     pub held_limit: Option<u32>,
     /// The input whose end ends the turns of `listen` and `call`, if one does.
     pub input: Option<Arc<InputEnd>>,
+}
+
+impl<F: Drop> Drop for Endpoint<F> {
+    fn drop(self) {
+        let Endpoint {
+            socket: _,
+            config: _,
+            division: _,
+            record: _,
+            keeping: _,
+            past: _,
+            kind: _,
+            is_counted: _,
+            is_announced: _,
+            tells_drops: _,
+            tells_ids: _,
+            turns: _,
+            seconds: _,
+            held_limit: _,
+            input: _,
+        } = self;
+    }
 }
 
 impl<F> Endpoint<F> {
@@ -71,11 +95,13 @@ impl<F> Endpoint<F> {
             is_announced: false,
             tells_drops: false,
             tells_ids: false,
+            turns: u64::MAX,
             seconds: None,
             held_limit: None,
             input: None,
         }
     }
+
     /// How many agents it has, each at its own thread: as many as its division says. There is one
     /// alone if the run is recorded, or if the number of its first round leaves no room for those
     /// of others.
@@ -102,7 +128,10 @@ impl<F> Endpoint<F> {
             ≡ option_map (λ limit. share_of limit agents) self.old.held_limit }
         ensures same { self.new.config ≡ self.old.config }
     {
-        self.held_limit = self.held_limit.map(|limit| share(limit, agents));
+        self.held_limit = match self.held_limit {
+            Some(limit) => Some(share(limit, agents)),
+            None => None,
+        };
     }
 
     /// The endpoint of another agent, the one with this number, at the same socket. Nothing of it
@@ -131,10 +160,44 @@ impl<F> Endpoint<F> {
             is_announced: false,
             tells_drops: self.tells_drops,
             tells_ids: self.tells_ids,
+            turns: self.turns,
             seconds: self.seconds,
             held_limit: self.held_limit,
             input: self.input.clone()?,
         })
+    }
+}
+
+impl<F: RecordFile> Endpoint<F> {
+    /// Takes the record out.
+    pub(crate) fn take_record(&mut self) -> Record<F> {
+        let file = self.record.take();
+        match &self.past {
+            Some(past) => Record::journal(file, self.keeping, past),
+            None => Record::new(self.kind, file),
+        }
+    }
+
+    /// Its socket alone.
+    pub(crate) fn into_socket(self) -> UdpSocket {
+        let Endpoint {
+            socket,
+            config: _,
+            division: _,
+            record: _,
+            keeping: _,
+            past: _,
+            kind: _,
+            is_counted: _,
+            is_announced: _,
+            tells_drops: _,
+            tells_ids: _,
+            turns: _,
+            seconds: _,
+            held_limit: _,
+            input: _,
+        } = self;
+        socket
     }
 }
 

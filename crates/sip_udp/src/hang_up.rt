@@ -17,20 +17,30 @@ pub(crate) fn nothing(alloc: Global) -> Content
     Content::of_body(body)
 }
 
-/// The BYE of a dialog.
-pub(crate) fn bye(
+/// Ends a dialog: asks for its BYE.
+///
+/// # Errors
+///
+/// Memory ran out.
+pub(crate) fn end_dialog(
     alloc: Global,
     call_id: &CallId,
     local_tag: &Text,
     remote_tag: &Text,
-) -> Result<Event, AllocError> {
-    Ok(Event::Command(UserCommand::Request(DialogRequest {
-        call_id: call_id.clone()?,
-        local_tag: Token::new(local_tag.clone()?),
-        remote_tag: Token::new(remote_tag.clone()?),
+    events: &mut Vec<Event>,
+) -> Result<(), AllocError> {
+    let call_id = call_id.clone()?;
+    let local_tag = Token::new(local_tag.clone()?);
+    let remote_tag = Token::new(remote_tag.clone()?);
+    let request = DialogRequest {
+        call_id,
+        local_tag,
+        remote_tag,
         method: bye_method(alloc)?,
         content: nothing(alloc),
-    })))
+    };
+    events.push(Event::Command(UserCommand::Request(request)))?;
+    Ok(())
 }
 
 #[tactic(auto, unfolding(sip_text::specs::Token::is_token, sip_text::specs::Token::is_token_byte))]

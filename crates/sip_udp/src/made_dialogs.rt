@@ -1,6 +1,6 @@
 //! The dialogs that INVITEs to a listener make.
 
-use crate::hang_up::bye;
+use crate::hang_up::end_dialog;
 use sip_message::{CallId, Id};
 use sip_round::Event;
 use sip_text::Text;
@@ -105,7 +105,7 @@ impl MadeDialogs {
         };
         for made in dialogs {
             if made.id == id {
-                events.push(bye(alloc, call_id, &made.local_tag, &made.remote_tag)?)?;
+                end_dialog(alloc, call_id, &made.local_tag, &made.remote_tag, events)?;
             }
         }
         Ok(())
@@ -162,7 +162,7 @@ fn hang_up_each(
     let mut unconfirmed = Vec::new(alloc);
     for made in dialogs {
         if made.is_confirmed {
-            events.push(bye(alloc, call_id, &made.local_tag, &made.remote_tag)?)?;
+            end_dialog(alloc, call_id, &made.local_tag, &made.remote_tag, events)?;
         } else {
             unconfirmed.push(made)?;
         }

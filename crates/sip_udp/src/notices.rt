@@ -5,12 +5,13 @@ ghost use Rattle.std.specs.List.{flat_map};
 ghost use Rattle.std.specs.Option.{option_copied};
 ghost use Rattle.std.specs.Io.KnownBytes.{Appends};
 ghost use Rattle.sip_files.specs.Outputs.{output_line};
+ghost use Rattle.sip_round.specs.declared.round.Event.TheVariants.{Datagram as ADatagram};
 ghost use Rattle.sip_udp.specs.Telling.{AreHeadersOf, Tells, TellsAll, spelled_header, told_datagram, told_drop, told_line};
 
 use crate::dropped::{dropped_line, is_keep_alive};
 use crate::fault::UaFault;
 use sip_files::{FileKind, write_header_line, write_output};
-use sip_message::Id;
+use sip_message::{Addr, Id};
 use sip_reader::{HeaderLine, header_lines};
 use sip_round::{Event, Output, PlacedOutput, datagram_at, event_at};
 use sip_text::{Series, Text};
@@ -43,8 +44,7 @@ pub(crate) fn write_notices<W: Write>(
         × Appends (W.contents writer.old) (W.contents writer.new) text) }
 {
     for placed in outputs {
-        let mut text = Vec::new(alloc);
-        tell(alloc, &mut text, telling, events, placed)?;
+        let text = told_text(alloc, telling, events, placed)?;
         write_text(writer, &text)?;
     }
     Ok(())
@@ -68,20 +68,20 @@ pub(crate) fn write_ids<W: Write>(
     Ok(())
 }
 
-fn tell<W: Write>(
+// What is told of an output: header lines, and its line.
+fn told_text(
     alloc: Global,
-    writer: &mut W,
     telling: Telling,
     events: &[Event],
     placed: &PlacedOutput,
-) -> Result<(), UaFault>
-    ensures { OnOk result ((text : List ℕ)
-        × Tells telling.kind telling.drops events.now placed.now text
-        × Appends (W.contents writer.old) (W.contents writer.new) text) }
+) -> Result<Vec<u8>, AllocError>
+    ensures { IfOk result (λ text.
+        Tells telling.kind telling.drops events.now placed.now text.items) }
 {
     let headers = headers_of(alloc, telling.kind, events, placed)?;
-    write_headers(alloc, writer, headers.as_slice())?;
-    tell_line(alloc, writer, telling.drops, events, &placed.output)
+    let mut text = spelled(alloc, headers.as_slice())?;
+    add_line(alloc, &mut text, telling.drops, events, &placed.output)?;
+    Ok(text)
 }
 
 // The header lines that stand before an output.
@@ -111,19 +111,16 @@ fn datagram_of<'a>(kind: FileKind, events: &'a [Event], placed: &PlacedOutput) -
     }
 }
 
-fn write_headers<W: Write>(
-    alloc: Global,
-    writer: &mut W,
-    headers: &[HeaderLine],
-) -> Result<(), UaFault>
-    ensures { OnOk result (Appends (W.contents writer.old) (W.contents writer.new)
-        (flat_map spelled_header headers.now)) }
+// Header lines as they stand in a session.
+fn spelled(alloc: Global, headers: &[HeaderLine]) -> Result<Vec<u8>, AllocError>
+    ensures { IfOk result (λ text. text.items ≡ flat_map spelled_header headers.now) }
 {
+    let mut text = Vec::new(alloc);
     for header in headers {
         let line = write_header_line(alloc, header.name.as_slice(), header.value.as_slice())?;
-        write_text(writer, &line)?;
+        text.extend_from_slice(&line)?;
     }
-    Ok(())
+    Ok(text)
 }
 
 fn write_text<W: Write>(writer: &mut W, text: &[u8]) -> Result<(), UaFault>
@@ -135,62 +132,66 @@ fn write_text<W: Write>(writer: &mut W, text: &[u8]) -> Result<(), UaFault>
     }
 }
 
-fn tell_line<W: Write>(
+// Adds the line of an output, if it has one.
+fn add_line(
     alloc: Global,
-    writer: &mut W,
+    text: &mut Vec<u8>,
     drops: Option<u64>,
     events: &[Event],
     output: &Output,
-) -> Result<(), UaFault>
-    ensures { OnOk result (Appends (W.contents writer.old) (W.contents writer.new)
-        (told_line drops events.now output.now)) }
+) -> Result<(), AllocError>
+    ensures { OnOk result (text.new.items
+        ≡ text.old.items ++ told_line drops events.now output.now) }
+{
+    let line = line_of(alloc, drops, events, output)?;
+    text.extend_from_slice(&line)
+}
+
+// The line of an output; no text if it has none.
+fn line_of(
+    alloc: Global,
+    drops: Option<u64>,
+    events: &[Event],
+    output: &Output,
+) -> Result<Vec<u8>, AllocError>
+    ensures { IfOk result (λ line. line.items ≡ told_line drops events.now output.now) }
 {
     match output {
-        Output::Send { .. } => Ok(()),
+        Output::Send { .. } => Ok(Vec::new(alloc)),
         Output::Dropped { place, reason } => match drops {
             Some(round) => {
                 let id = Id {
                     round,
                     place: *place,
                 };
-                tell_drop(alloc, writer, id, *reason, event_at(events, *place))
+                match event_at(events, *place) {
+                    Some(Event::Datagram { from, bytes }) => {
+                        drop_line(alloc, id, *reason, *from, bytes.as_slice())
+                    }
+                    _ => write_output(alloc, output),
+                }
             }
-            None => Ok(()),
+            None => Ok(Vec::new(alloc)),
         },
-        Output::Notice(_) => write_line(alloc, writer, output),
+        Output::Notice(_) => write_output(alloc, output),
     }
 }
 
-// Tells of a drop with this reason, for this event.
-fn tell_drop<W: Write>(
+// The line of a datagram that was dropped; no text for a keep-alive.
+fn drop_line(
     alloc: Global,
-    writer: &mut W,
     id: Id,
     reason: DropReason,
-    event: Option<&Event>,
-) -> Result<(), UaFault>
-    ensures { OnOk result (Appends (W.contents writer.old) (W.contents writer.new)
-        (told_drop (Some id.round) id.place reason (option_copied event.entry))) }
+    from: Addr,
+    bytes: &[u8],
+) -> Result<Vec<u8>, AllocError>
+    ensures { IfOk result (λ line. line.items
+        ≡ told_drop (Some id.round) id.place reason (Some (ADatagram from bytes.now))) }
 {
-    match event {
-        Some(Event::Datagram { bytes, .. }) if is_keep_alive(bytes.as_slice()) => Ok(()),
-        Some(Event::Datagram { from, bytes }) => {
-            let line = dropped_line(alloc, id, reason, *from, bytes.as_slice())?;
-            write_text(writer, &line)
-        }
-        _ => {
-            let place = id.place;
-            write_line(alloc, writer, &Output::Dropped { place, reason })
-        }
+    if is_keep_alive(bytes) {
+        return Ok(Vec::new(alloc));
     }
-}
-
-fn write_line<W: Write>(alloc: Global, writer: &mut W, output: &Output) -> Result<(), UaFault>
-    ensures { OnOk result (Appends (W.contents writer.old) (W.contents writer.new)
-        (output_line output.now)) }
-{
-    let line = write_output(alloc, output)?;
-    write_text(writer, &line)
+    dropped_line(alloc, id, reason, from, bytes)
 }
 
 /// Writes all bytes, and flushes.

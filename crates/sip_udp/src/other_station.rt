@@ -9,39 +9,48 @@ use crate::barrier::Barrier;
 use crate::endpoint::Endpoint;
 use crate::fault::UaFault;
 use crate::listener::Flags;
+use crate::queued_writer::QueuedEnd;
 use crate::station::Station;
 use crate::user::User;
 use sip_desk::Poster;
 use sip_round::Event;
 use std::alloc::{AllocError, Global};
-use std::io::Write;
 use std::thread::{self, Threads};
 use std::time::Clock;
 
 /// What another agent needs: an endpoint at the same socket, a user, and where it tells its
 /// notices.
 #[derive(Drop)]
-pub(crate) struct OtherAgent<U, O> {
+pub(crate) struct OtherAgent<U> {
     pub(crate) endpoint: Endpoint<Vec<u8>>,
     pub(crate) user: U,
-    pub(crate) notices: O,
+    pub(crate) notices: QueuedEnd,
 }
 
 /// The station of another agent, which is never recorded. What is wrong is kept until the end.
-#[derive(Drop)]
-pub(crate) struct OtherStation<U, O> {
+pub(crate) struct OtherStation<U> {
     pub(crate) station: Station<U, Vec<u8>>,
-    pub(crate) notices: O,
+    pub(crate) notices: QueuedEnd,
     pub(crate) errors: Vec<u8>,
 }
 
-impl<U: User, O: Write + Drop> OtherStation<U, O> {
+impl<U: Drop> Drop for OtherStation<U> {
+    fn drop(self) {
+        let OtherStation {
+            station: _,
+            notices: _,
+            errors: _,
+        } = self;
+    }
+}
+
+impl<U: User> OtherStation<U> {
     /// The station of this agent, and the poster of its line.
     pub(crate) fn open<R: Threads + Clock + Sync>(
         rt: &R,
         alloc: Global,
-        agent: OtherAgent<U, O>,
-    ) -> Result<(OtherStation<U, O>, Poster<Event>), UaFault>
+        agent: OtherAgent<U>,
+    ) -> Result<(OtherStation<U>, Poster<Event>), UaFault>
         ensures { IfOk result (λ made. IsPosterOf made.0.station.desk made.1) }
     {
         let OtherAgent {
@@ -63,10 +72,9 @@ impl<U: User, O: Write + Drop> OtherStation<U, O> {
     fn run<R: Threads + Clock + Sync>(
         self,
         rt: &R,
-        turns: u64,
         flags: &Flags,
         barrier: &Barrier,
-    ) -> OtherStation<U, O>
+    ) -> OtherStation<U>
         ensures { KeepsItsLine self result }
     {
         let OtherStation {
@@ -74,7 +82,7 @@ impl<U: User, O: Write + Drop> OtherStation<U, O> {
             mut notices,
             mut errors,
         } = self;
-        let station = station.run(rt, turns, flags, barrier, &mut notices, &mut errors);
+        let station = station.run(rt, flags, barrier, &mut notices, &mut errors);
         OtherStation {
             station,
             notices,
@@ -88,21 +96,20 @@ impl<U: User, O: Write + Drop> OtherStation<U, O> {
 /// # Errors
 ///
 /// Memory ran out. Then the stations are lost.
-pub(crate) fn run_others<R: Threads + Clock + Sync, U: User + Send, O: Write + Send + Drop>(
+pub(crate) fn run_others<R: Threads + Clock + Sync, U: User + Send>(
     rt: &R,
-    turns: u64,
     flags: &Flags,
     barrier: &Barrier,
-    others: Vec<OtherStation<U, O>>,
-) -> Result<Vec<OtherStation<U, O>>, AllocError>
+    others: Vec<OtherStation<U>>,
+) -> Result<Vec<OtherStation<U>>, AllocError>
     ensures { IfOk result (λ ran. AllZip KeepsItsLine others.items ran.items) }
 {
     let ran = thread::map_vec(
         rt,
         others,
-        &|other: OtherStation<U, O>| -> OtherStation<U, O>
+        &|other: OtherStation<U>| -> OtherStation<U>
             ensures { KeepsItsLine other result }
-        { other.run(rt, turns, flags, barrier) },
+        { other.run(rt, flags, barrier) },
     )?;
     Ok(ran)
 }

@@ -54,18 +54,12 @@ impl Past {
                 Err(UaFault::NoJournal)
             };
         };
-        match read_file(self.alloc, FileKind::Session, &lines) {
-            Ok((config, _)) if self.is_head(&config, &lines)? => Ok(Some(config)),
-            Err(EventsFault::NoMemory) => Err(UaFault::NoMemory),
-            Ok(_) | Err(_) => Err(UaFault::NoJournal),
+        let config = config_of(self.alloc, &lines)?;
+        if is_head(self.alloc, &config, &lines)? {
+            Ok(Some(config))
+        } else {
+            Err(UaFault::NoJournal)
         }
-    }
-
-    // Whether these lines are the head as it is written, which has all that a session may leave
-    // out.
-    fn is_head(&self, config: &Config, lines: &[u8]) -> Result<bool, AllocError> {
-        let head = write_file_head(self.alloc, FileKind::Session, config)?;
-        Ok(head.as_slice() == lines)
     }
 
     /// The next lines; none at the end.
@@ -113,7 +107,9 @@ impl Past {
         self.given = 0;
         let mut buffer = vec![in self.alloc; 0u8; CHUNK]?;
         for _ in 0..=self.text.len() / CHUNK {
-            let count = file.read_past(&mut buffer).map_err(|_| UaFault::Journal)?;
+            let Ok(count) = file.read_past(&mut buffer) else {
+                return Err(UaFault::Journal);
+            };
             let Some(bytes) = buffer.get(..count) else {
                 return Err(UaFault::Journal);
             };
@@ -125,6 +121,21 @@ impl Past {
         }
         Ok(())
     }
+}
+
+// The configuration that these lines say.
+fn config_of(alloc: Global, lines: &[u8]) -> Result<Config, UaFault> {
+    match read_file(alloc, FileKind::Session, lines) {
+        Ok((config, _)) => Ok(config),
+        Err(EventsFault::NoMemory) => Err(UaFault::NoMemory),
+        Err(_) => Err(UaFault::NoJournal),
+    }
+}
+
+// Whether these lines are the head as it is written, which has all that a session may leave out.
+fn is_head(alloc: Global, config: &Config, lines: &[u8]) -> Result<bool, AllocError> {
+    let head = write_file_head(alloc, FileKind::Session, config)?;
+    Ok(head.as_slice() == lines)
 }
 
 // A text up to its last line feed.

@@ -86,7 +86,10 @@ impl<F: RecordFile> Record<F> {
     /// `Journal`.
     pub(crate) fn cut(&mut self, len: u64) -> Result<(), UaFault> {
         match &mut self.file {
-            Some(file) => file.cut(len).map_err(|_| UaFault::Journal),
+            Some(file) => match file.cut(len) {
+                Ok(()) => Ok(()),
+                Err(_) => Err(UaFault::Journal),
+            },
             None => Ok(()),
         }
     }

@@ -2,11 +2,11 @@
 
 ghost use Rattle.std.specs.Prelude.{◌≡◌, ◌<◌, ◌++◌, Bool, IfOk, OnErr, map};
 ghost use Rattle.std.specs.Vec.{vec_len, vec_capacity};
-ghost use Rattle.sip_udp.specs.Prepared as spec;
+ghost use Rattle.sip_udp.specs.Prepared.{key_of};
 ghost use Rattle.sip_udp.specs.Sending.{Asks, SendsAll, calls_for, failures_of};
 
 use crate::outlet::Outlet;
-use sip_message::Key;
+use sip_message::SharedKey;
 use sip_round::{Event, Output, PlacedOutput};
 use std::alloc::{AllocError, Global};
 
@@ -25,48 +25,47 @@ pub fn send_all<O: Outlet>(
         (map (λ placed. placed.output) outputs.now) failed.items) }
     ensures unasked { OnErr result (outlet.new ≡ outlet.old) }
 {
-    let failures = prepared(alloc, outputs)?;
+    let keys = keys_of(alloc, outputs)?;
     let mut failed = Vec::with_capacity(alloc, outputs.len())?;
     let mut left = outputs;
-    for failure in failures {
+    for key in keys {
         let Some((placed, rest)) = left.split_first() else {
             return Ok(failed);
         };
-        send_one(outlet, &placed.output, failure, &mut failed);
+        send_one(outlet, &placed.output, key, &mut failed);
         left = rest;
     }
     Ok(failed)
 }
 
-// For each output, the event that reports its failure.
-fn prepared(alloc: Global, outputs: &[PlacedOutput]) -> Result<Vec<Option<Event>>, AllocError>
-    ensures { IfOk result (λ failures. failures.items
-        ≡ map (λ placed. spec.prepared placed.output) outputs.now) }
+// For each output, the key under which its failure is reported.
+fn keys_of(alloc: Global, outputs: &[PlacedOutput]) -> Result<Vec<Option<SharedKey>>, AllocError>
+    ensures { IfOk result (λ keys. keys.items ≡ map (λ placed. key_of placed.output) outputs.now) }
 {
-    let mut failures = Vec::with_capacity(alloc, outputs.len())?;
+    let mut keys = Vec::with_capacity(alloc, outputs.len())?;
     for placed in outputs {
-        failures.push(failure_of(&placed.output)?)?;
+        keys.push(key_of(&placed.output)?)?;
     }
-    Ok(failures)
+    Ok(keys)
 }
 
-fn failure_of(output: &Output) -> Result<Option<Event>, AllocError>
-    ensures { IfOk result (λ failure. failure ≡ spec.prepared output.now) }
+fn key_of(output: &Output) -> Result<Option<SharedKey>, AllocError>
+    ensures { IfOk result (λ key. key ≡ key_of output.now) }
 {
     match output {
-        Output::Send { key: Some(key), .. } => Ok(Some(Event::Failed(key.clone()?))),
+        Output::Send { key: Some(key), .. } => Ok(Some(key.clone()?)),
         Output::Send { key: None, .. } | Output::Dropped { .. } | Output::Notice(_) => Ok(None),
     }
 }
 
-// Sends one output, if it is a Send, and adds its failure if it wasn't sent.
+// Sends one output, if it is a Send, and adds its failure if it wasn't sent and has a key.
 fn send_one<O: Outlet>(
     outlet: &mut O,
     output: &Output,
-    failure: Option<Event>,
+    key: Option<SharedKey>,
     failed: &mut Vec<Event>,
 )
-    requires failure { failure ≡ spec.prepared output.now }
+    requires key { key ≡ key_of output.now }
     requires room { vec_len failed.old < vec_capacity failed.old }
     ensures sends { (is_sent : Bool)
         × Asks (O.asked outlet.old) (O.asked outlet.new) (calls_for (output.now, is_sent))
@@ -77,7 +76,7 @@ fn send_one<O: Outlet>(
         return;
     };
     let is_sent = outlet.send(*to, bytes.as_slice());
-    if let (false, Some(failure)) = (is_sent, failure) {
-        failed.push_reserved(failure);
+    if let (false, Some(key)) = (is_sent, key) {
+        failed.push_reserved(Event::Failed(key));
     }
 }

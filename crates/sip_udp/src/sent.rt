@@ -51,7 +51,10 @@ impl Sent {
             self.former = mem::replace(&mut self.recent, BTreeSet::new(self.alloc));
             self.until = now.saturating_add(MEMORY);
         }
-        let branch = key.map_or(b"".as_slice(), |key| key.get().branch());
+        let branch = match key {
+            Some(key) => key.get().branch(),
+            None => b"".as_slice(),
+        };
         let address = hash_of(hash_of(OFFSET, &to.ip), &to.port.to_be_bytes());
         let hash = hash_of(hash_of(address, branch), bytes);
         let is_new = self.recent.insert(hash)?;

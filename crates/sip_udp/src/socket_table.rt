@@ -28,7 +28,10 @@ pub fn drops_in(alloc: Global, table: &str, local: Addr) -> Result<Option<u64>, 
     for row in table.lines() {
         let mut words = row.split_ascii_whitespace();
         if words.nth(1) == Some(address.as_str()) {
-            return Ok(words.last().and_then(|count| count.parse().ok()));
+            return Ok(match words.last() {
+                Some(count) => count.parse().ok(),
+                None => None,
+            });
         }
     }
     Ok(None)

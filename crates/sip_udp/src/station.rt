@@ -3,41 +3,54 @@
 ghost use Rattle.std.specs.Prelude.{◌≡◌, IfOk};
 ghost use Rattle.sip_desk.specs.Lines.{IsPosterOf, KeepsLines};
 
-use crate::admission::Admission;
 use crate::barrier::Barrier;
 use crate::bell::Bell;
 use crate::endpoint::Endpoint;
 use crate::fault::UaFault;
 use crate::listener::Flags;
 use crate::outlet::CountedSocket;
-use crate::past::Past;
-use crate::record::Record;
 use crate::record_file::RecordFile;
-use crate::time_limit::TimeLimit;
+use crate::socket_table::system_drops;
 use crate::turns::Turns;
 use crate::user::User;
 use sip_desk::{Desk, NoMemory, Poster, open};
+use sip_message::Addr;
 use sip_round::Event;
 use std::alloc::Global;
 use std::io::Write;
-use std::net::UdpSocket;
+use std::rt::Files;
 use std::sync::Arc;
 use std::sync::atomic::Ordering;
 use std::thread::Threads;
-use std::time::{Clock, SystemTime};
+use std::time::Clock;
 
 /// How many datagrams wait for the turns at most: more than come in a second, so that turns which
 /// stand still for so long lose none.
 pub(crate) const DATAGRAMS_WAITING: usize = 16_384;
 
 /// An agent with what its turns need.
-#[derive(Drop)]
 pub(crate) struct Station<U, F> {
     pub(crate) turns: Turns<U, F>,
     pub(crate) desk: Desk<Event>,
     pub(crate) outlet: CountedSocket,
+    // The address of its socket, and whether it is said when datagrams can come there.
+    local: Addr,
+    is_announced: bool,
     /// Why its turns ended too early, if they did.
     pub(crate) fault: Option<UaFault>,
+}
+
+impl<U: Drop, F: Drop> Drop for Station<U, F> {
+    fn drop(self) {
+        let Station {
+            turns: _,
+            desk: _,
+            outlet: _,
+            local: _,
+            is_announced: _,
+            fault: _,
+        } = self;
+    }
 }
 
 impl<U: User, F: RecordFile> Station<U, F> {
@@ -46,7 +59,7 @@ impl<U: User, F: RecordFile> Station<U, F> {
     pub(crate) fn open<R: Threads + Clock + Sync, W: Write, E: Write>(
         rt: &R,
         alloc: Global,
-        endpoint: Endpoint<F>,
+        mut endpoint: Endpoint<F>,
         user: U,
         bell: Option<Arc<Bell>>,
         notices: &mut W,
@@ -54,18 +67,40 @@ impl<U: User, F: RecordFile> Station<U, F> {
     ) -> Result<(Station<U, F>, Poster<Event>), UaFault>
         ensures { IfOk result (λ made. IsPosterOf made.0.desk made.1) }
     {
-        let (mut turns, socket, past) = turns_at(rt, alloc, endpoint, user, bell, errors)?;
-        if let Some(past) = past {
+        let mut turns = Turns::new(rt, alloc, &mut endpoint, user, bell, errors)?;
+        if let Some(past) = &mut endpoint.past {
             turns.resume(rt, past, notices, errors)?;
         }
         let (desk, line) = one_line(alloc, DATAGRAMS_WAITING)?;
         let station = Station {
             turns,
             desk,
-            outlet: CountedSocket { socket, failed: 0 },
+            local: endpoint.config.local,
+            is_announced: endpoint.is_announced,
+            outlet: CountedSocket {
+                socket: endpoint.into_socket(),
+                failed: 0,
+            },
             fault: None,
         };
         Ok((station, line))
+    }
+
+    /// Says that datagrams can come, if that is to be said.
+    pub(crate) fn announce<E: Write>(&self, errors: &mut E) {
+        if self.is_announced {
+            let local = self.local;
+            let _ = writeln!(errors, "ua: ready at {local}");
+        }
+    }
+
+    /// How many datagrams the system dropped, if that is counted and the system says.
+    pub(crate) fn system_drops<R: Files>(&self, rt: &R, alloc: Global) -> Option<u64> {
+        if self.turns.is_counted() {
+            system_drops(rt, alloc, self.local)
+        } else {
+            None
+        }
     }
 
     /// Takes its turns as soon as all stations are there. If they end by a fault, all others are
@@ -73,7 +108,6 @@ impl<U: User, F: RecordFile> Station<U, F> {
     pub(crate) fn run<R: Threads + Clock + Sync, W: Write, E: Write>(
         mut self,
         rt: &R,
-        turns: u64,
         flags: &Flags,
         barrier: &Barrier,
         notices: &mut W,
@@ -84,7 +118,7 @@ impl<U: User, F: RecordFile> Station<U, F> {
         let end = if barrier.reach(rt) {
             let (desk, outlet) = (&mut self.desk, &mut self.outlet);
             self.turns
-                .take(rt, turns, desk, outlet, notices, errors, &flags.ended)
+                .take(rt, desk, outlet, notices, errors, &flags.ended)
         } else {
             Err(UaFault::Socket)
         };
@@ -93,56 +127,6 @@ impl<U: User, F: RecordFile> Station<U, F> {
             flags.stop.store(true, Ordering::SeqCst);
         }
         self
-    }
-}
-
-// The turns at an endpoint, its socket, and what there is of its journal.
-fn turns_at<R: Clock, U: User, F: RecordFile, E: Write>(
-    rt: &R,
-    alloc: Global,
-    endpoint: Endpoint<F>,
-    user: U,
-    bell: Option<Arc<Bell>>,
-    errors: &mut E,
-) -> Result<(Turns<U, F>, UdpSocket, Option<Past>), UaFault> {
-    let Endpoint {
-        socket,
-        config,
-        division,
-        record,
-        keeping,
-        past,
-        kind,
-        is_counted,
-        is_announced: _,
-        tells_drops,
-        tells_ids,
-        seconds,
-        held_limit,
-        input,
-    } = endpoint;
-    let (base, record) = match &past {
-        Some(past) => (since_1970(rt)?, Record::journal(record, keeping, past)),
-        None => (0, Record::new(kind, record)),
-    };
-    let limit = TimeLimit::new(seconds, input);
-    let admission = Admission::new(held_limit);
-    let drops = tells_drops || user.is_eager();
-    let turns = Turns::new(
-        rt, alloc, config, division, record, base, kind, limit, admission, drops, tells_ids,
-        is_counted, user, bell, errors,
-    )?;
-    Ok((turns, socket, past))
-}
-
-// The ms since 1970.
-fn since_1970<R: Clock>(rt: &R) -> Result<u64, UaFault> {
-    let Ok(now) = SystemTime::now(rt) else {
-        return Err(UaFault::Socket);
-    };
-    match now.duration_since(SystemTime::UNIX_EPOCH) {
-        Ok(passed) => Ok(u64::try_from(passed.as_millis()).unwrap_or(u64::MAX)),
-        Err(_) => Err(UaFault::Socket),
     }
 }
 

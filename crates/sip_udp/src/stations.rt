@@ -24,19 +24,13 @@ use std::time::Clock;
 
 /// Opens the stations of these agents. Gives them, and the lines of all: first `line`, the caller's
 /// own, and then those of the others, in order.
-pub(crate) fn open_others<
-    R: Threads + Clock + Sync,
-    U: User,
-    F: RecordFile,
-    V: User,
-    O: Write + Drop,
->(
+pub(crate) fn open_others<R: Threads + Clock + Sync, U: User, F: RecordFile>(
     rt: &R,
     alloc: Global,
     own: &Station<U, F>,
     line: Poster<Event>,
-    agents: Vec<OtherAgent<V, O>>,
-) -> Result<(Vec<OtherStation<V, O>>, Vec<Poster<Event>>), UaFault>
+    agents: Vec<OtherAgent<U>>,
+) -> Result<(Vec<OtherStation<U>>, Vec<Poster<Event>>), UaFault>
     requires { IsPosterOf own.now.desk line }
     ensures { IfOk result (λ made. AllZip IsPosterOf (desks_of own.now made.0.items)
         made.1.items) }
@@ -65,41 +59,32 @@ pub(crate) fn add<T: Drop>(items: &mut Vec<T>, item: T) -> Result<(), AllocError
 }
 
 /// Runs all stations, each on a thread of its own; the caller's own on the calling thread.
-pub(crate) fn run_all<
-    R: Threads + Clock + Sync,
-    U: User,
-    F: RecordFile,
-    V: User + Send,
-    O: Write + Send + Drop,
-    W: Write,
-    E: Write,
->(
+pub(crate) fn run_all<R: Threads + Clock + Sync, U: User + Send, F: RecordFile, W: Write, E: Write>(
     rt: &R,
-    turns: u64,
     flags: &Flags,
     own: Station<U, F>,
-    others: Vec<OtherStation<V, O>>,
+    others: Vec<OtherStation<U>>,
     notices: &mut W,
     errors: &mut E,
-) -> (Station<U, F>, Result<Vec<OtherStation<V, O>>, AllocError>)
+) -> (Station<U, F>, Result<Vec<OtherStation<U>>, AllocError>)
     ensures own { KeepsLines own.desk result.0.desk }
     ensures others { IfOk result.1 (λ ran. AllZip KeepsItsLine others.items ran.items) }
 {
     let barrier = Barrier::new(others.len().saturating_add(1));
     let barrier = &barrier;
     if others.is_empty() {
-        let own = own.run(rt, turns, flags, barrier, notices, errors);
+        let own = own.run(rt, flags, barrier, notices, errors);
         return (own, Ok(others));
     }
     let (ran, own) = thread::join(
         rt,
-        move || -> Result<Vec<OtherStation<V, O>>, AllocError>
-            requires { IsSync R.row × IsSend V.row × IsSend O.row }
+        move || -> Result<Vec<OtherStation<U>>, AllocError>
+            requires { IsSync R.row × IsSend U.row }
             ensures { IfOk result (λ ran. AllZip KeepsItsLine others.items ran.items) }
-        { run_others(rt, turns, flags, barrier, others) },
+        { run_others(rt, flags, barrier, others) },
         move || -> Station<U, F>
             ensures { KeepsLines own.desk result.desk }
-        { own.run(rt, turns, flags, barrier, notices, errors) },
+        { own.run(rt, flags, barrier, notices, errors) },
     );
     (own, ran)
 }
@@ -110,47 +95,51 @@ pub(crate) fn run_all<
 /// # Errors
 ///
 /// The first fault.
-pub(crate) fn conclude<U: User, F: RecordFile, V: User, O: Write + Drop, E: Write>(
-    own: Station<U, F>,
-    others: Vec<OtherStation<V, O>>,
+pub(crate) fn conclude<U: User, F: RecordFile, E: Write>(
+    own: &mut Station<U, F>,
+    others: Vec<OtherStation<U>>,
     heard: Heard,
     by_system: Option<u64>,
     errors: &mut E,
 ) -> Result<(), UaFault>
-    requires { IfSome heard.ends (λ ends. AllZip EndsStation (desks_of own others.items)
+    requires { IfSome heard.ends (λ ends. AllZip EndsStation (desks_of own.old others.items)
         ends.items) }
 {
-    let Station {
-        mut turns,
-        mut desk,
-        outlet,
-        fault,
-    } = own;
-    let Heard {
-        ends,
-        fault: fault_of_listener,
-        lost,
-    } = heard;
+    let Heard { ends, fault, lost } = heard;
     let losses = Losses {
-        unsent: unsent(outlet.failed, &others),
+        unsent: unsent(own.outlet.failed, &others),
         unposted: lost,
         by_system,
     };
-    write_errors(&others, errors);
-    let counted = add_counts(&mut turns, &others);
-    turns.tell_counts(losses, errors);
-    none_of(fault)?;
-    none_of_others(&others)?;
-    none_of(fault_of_listener)?;
-    counted?;
+    report(own, &others, losses, fault, errors)?;
     if let Some(ends) = ends {
-        settle_all(&mut desk, others, ends)?;
+        settle_all(&mut own.desk, others, ends)?;
     }
-    turns.verdict()
+    own.turns.verdict()
+}
+
+// Writes what was wrong with the others, and the counts of all together. Gives the first fault of a
+// station, or that of the listener.
+fn report<U: User, F: RecordFile, E: Write>(
+    own: &mut Station<U, F>,
+    others: &[OtherStation<U>],
+    losses: Losses,
+    of_listener: Option<UaFault>,
+    errors: &mut E,
+) -> Result<(), UaFault>
+    ensures { own.new.desk ≡ own.old.desk }
+{
+    write_errors(others, errors);
+    let counted = add_counts(&mut own.turns, others);
+    own.turns.tell_counts(losses, errors);
+    none_of(own.fault)?;
+    none_of_others(others)?;
+    none_of(of_listener)?;
+    Ok(counted?)
 }
 
 // How many datagrams couldn't be sent: so many, and those of the others.
-fn unsent<V: User, O: Write + Drop>(own: u64, others: &[OtherStation<V, O>]) -> u64 {
+fn unsent<U: User>(own: u64, others: &[OtherStation<U>]) -> u64 {
     let mut unsent = own;
     for other in others {
         unsent = unsent.saturating_add(other.station.outlet.failed);
@@ -158,16 +147,16 @@ fn unsent<V: User, O: Write + Drop>(own: u64, others: &[OtherStation<V, O>]) -> 
     unsent
 }
 
-fn write_errors<V: User, O: Write + Drop, E: Write>(others: &[OtherStation<V, O>], errors: &mut E) {
+fn write_errors<U: User, E: Write>(others: &[OtherStation<U>], errors: &mut E) {
     for other in others {
         let _ = errors.write_all(&other.errors);
     }
 }
 
 // Adds what the others counted.
-fn add_counts<U: User, F: RecordFile, V: User, O: Write + Drop>(
+fn add_counts<U: User, F: RecordFile>(
     turns: &mut Turns<U, F>,
-    others: &[OtherStation<V, O>],
+    others: &[OtherStation<U>],
 ) -> Result<(), AllocError> {
     for other in others {
         turns.add_counts(&other.station.turns)?;
@@ -182,7 +171,7 @@ fn none_of(fault: Option<UaFault>) -> Result<(), UaFault> {
     }
 }
 
-fn none_of_others<V: User, O: Write + Drop>(others: &[OtherStation<V, O>]) -> Result<(), UaFault> {
+fn none_of_others<U: User>(others: &[OtherStation<U>]) -> Result<(), UaFault> {
     for other in others {
         none_of(other.station.fault)?;
     }
@@ -190,9 +179,9 @@ fn none_of_others<V: User, O: Write + Drop>(others: &[OtherStation<V, O>]) -> Re
 }
 
 // Settles the lines of all stations.
-fn settle_all<V: User, O: Write + Drop>(
+fn settle_all<U: User>(
     own: &mut Desk<Event>,
-    mut others: Vec<OtherStation<V, O>>,
+    mut others: Vec<OtherStation<U>>,
     mut ends: Vec<Option<Ended<Event>>>,
 ) -> Result<(), UaFault>
     requires { AllZip EndsStation (own.old ∷ map (λ other. other.station.desk) others.items)

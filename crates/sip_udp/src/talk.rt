@@ -2,7 +2,9 @@
 
 ghost use Rattle.std.specs.Prelude.{◌≡◌, ◌^◌, ◌<◌, ◌≤◌, IfSome};
 ghost use Rattle.std.specs.List.{AllZip};
+ghost use Rattle.sip_desk.specs.Lines.{IsPosterOf};
 ghost use Rattle.sip_udp.specs.Hearing.{EndsLine};
+ghost use Rattle.sip_udp.specs.Stations.{desks_of};
 
 use crate::answering::Answering;
 use crate::bell::Bell;
@@ -12,21 +14,20 @@ use crate::endpoint::Endpoint;
 use crate::fault::UaFault;
 use crate::listen_plan::ListenPlan;
 use crate::listener::{Flags, Heard, hear};
-use crate::other_station::OtherAgent;
+use crate::other_station::{OtherAgent, OtherStation};
 use crate::pipe_input::{PipeLine, feed};
 use crate::piped::Piped;
+use crate::queued_writer::QueuedEnd;
 use crate::record_file::RecordFile;
 use crate::shared_plan::SharedPlan;
-use crate::socket_table::system_drops;
 use crate::station::{Station, one_line};
 use crate::stations::{add, conclude, open_others, run_all};
 use crate::turns::MOST_COLLECTED;
 use crate::user::User;
 use sip_desk::Poster;
-use sip_message::{Addr, CallId, Uri, ip_text};
+use sip_message::{Addr, CallId, Uri};
 use sip_round::Event;
-use sip_text::Text;
-use std::alloc::{AllocError, Global};
+use std::alloc::Global;
 use std::io::{self, BufRead, Write};
 use std::net::{Net, UdpSocket};
 use std::rt::Files;
@@ -57,21 +58,12 @@ pub fn listen<R: Threads + Clock + Files + Sync, W: Write>(
     turns: u32,
     notices: &mut W,
 ) -> Result<(), UaFault> {
-    let endpoint = Endpoint::new(socket, local, seed, None::<Vec<u8>>);
+    let mut endpoint = Endpoint::new(socket, local, seed, None::<Vec<u8>>);
+    endpoint.turns = u64::from(turns);
     let plan = ListenPlan::usual();
-    let turns = u64::from(turns);
-    let others = Vec::<Vec<u8>>::new(alloc);
+    let others = Vec::new(alloc);
     let mut errors = Vec::new(alloc);
-    listen_at(
-        rt,
-        alloc,
-        endpoint,
-        plan,
-        turns,
-        notices,
-        others,
-        &mut errors,
-    )
+    listen_at(rt, alloc, endpoint, plan, notices, others, &mut errors)
 }
 
 /// Does what [`listen`] does, at an endpoint, and answers INVITEs by a plan. When the input of the
@@ -85,20 +77,13 @@ pub fn listen<R: Threads + Clock + Files + Sync, W: Write>(
 /// # Errors
 ///
 /// The first fault. All threads are joined then, too.
-pub fn listen_at<
-    R: Threads + Clock + Files + Sync,
-    F: RecordFile,
-    W: Write,
-    O: Write + Send + Drop,
-    E: Write,
->(
+pub fn listen_at<R: Threads + Clock + Files + Sync, F: RecordFile, W: Write, E: Write>(
     rt: &R,
     alloc: Global,
     mut endpoint: Endpoint<F>,
     plan: ListenPlan,
-    turns: u64,
     notices: &mut W,
-    others: Vec<O>,
+    others: Vec<QueuedEnd>,
     errors: &mut E,
 ) -> Result<(), UaFault> {
     let agents = endpoint.agents().min(others.len() + 1);
@@ -106,19 +91,17 @@ pub fn listen_at<
     let plan = SharedPlan::new(alloc, endpoint.config.local.ip, plan)?;
     let user = Answering::new(alloc, plan.clone()?);
     let others = other_agents(alloc, &endpoint, &plan, agents, others)?;
-    talk(
-        rt, alloc, endpoint, user, others, None, turns, notices, errors,
-    )
+    talk(rt, alloc, endpoint, user, others, None, notices, errors)
 }
 
 // The agents from the second on, of so many. Each tells its notices to one of the writers.
-fn other_agents<F: RecordFile, O: Drop>(
+fn other_agents<F: RecordFile>(
     alloc: Global,
     endpoint: &Endpoint<F>,
     plan: &Arc<SharedPlan>,
     agents: usize,
-    mut writers: Vec<O>,
-) -> Result<Vec<OtherAgent<Answering, O>>, UaFault>
+    mut writers: Vec<QueuedEnd>,
+) -> Result<Vec<OtherAgent<Answering>>, UaFault>
     requires most { agents ≤ 16 }
     requires room { 1 < agents → endpoint.now.config.first < 2 ^ 58 }
 {
@@ -155,11 +138,11 @@ pub fn call<R: Threads + Clock + Files + Sync, W: Write>(
     turns: u32,
     notices: &mut W,
 ) -> Result<(), UaFault> {
-    let endpoint = Endpoint::new(socket, local, seed, None::<Vec<u8>>);
+    let mut endpoint = Endpoint::new(socket, local, seed, None::<Vec<u8>>);
+    endpoint.turns = u64::from(turns);
     let plan = CallPlan::usual(alloc, to, uri, call_id);
-    let turns = u64::from(turns);
     let mut errors = Vec::new(alloc);
-    call_from(rt, alloc, endpoint, plan, turns, notices, &mut errors)
+    call_from(rt, alloc, endpoint, plan, notices, &mut errors)
 }
 
 /// Does what [`call`] does, from an endpoint and by a plan. When the input of the endpoint has
@@ -174,16 +157,12 @@ pub fn call_from<R: Threads + Clock + Files + Sync, F: RecordFile, W: Write, E: 
     alloc: Global,
     endpoint: Endpoint<F>,
     plan: CallPlan,
-    turns: u64,
     notices: &mut W,
     errors: &mut E,
 ) -> Result<(), UaFault> {
-    let from = own_uri(alloc, endpoint.config.local)?;
-    let user = Calling::new(alloc, endpoint.config.local.ip, plan, from)?;
-    let others = alone::<Calling>(alloc);
-    talk(
-        rt, alloc, endpoint, user, others, None, turns, notices, errors,
-    )
+    let user = Calling::new(endpoint.config.local, plan);
+    let others = Vec::new(alloc);
+    talk(rt, alloc, endpoint, user, others, None, notices, errors)
 }
 
 /// Does what the lines of the input say. Each is a command as in an event file, or in a session
@@ -203,14 +182,15 @@ pub fn agent<
 >(
     rt: &R,
     alloc: Global,
-    endpoint: Endpoint<F>,
+    mut endpoint: Endpoint<F>,
     input: I,
     linger: u32,
     notices: &mut W,
     errors: &mut E,
 ) -> Result<(), UaFault> {
+    endpoint.turns = u64::MAX;
     let bell = bell_of(rt, alloc)?;
-    let flags = flags_with(alloc, Some(bell.clone()?))?;
+    let flags = flags_with(alloc, Some(&bell))?;
     let their_flags = flags.clone()?;
     let (user, mut line) = piped(alloc, &flags, linger)?;
     let kind = endpoint.kind;
@@ -219,19 +199,9 @@ pub fn agent<
     }) else {
         return Err(UaFault::Socket);
     };
+    let others = Vec::new(alloc);
     let bell = Some(bell);
-    let others = alone::<Piped>(alloc);
-    let end = talk(
-        rt,
-        alloc,
-        endpoint,
-        user,
-        others,
-        bell,
-        u64::MAX,
-        notices,
-        errors,
-    );
+    let end = talk(rt, alloc, endpoint, user, others, bell, notices, errors);
     flags.stop.store(true, Ordering::SeqCst);
     end?;
     feeder.join(rt)?;
@@ -247,19 +217,6 @@ fn piped(
     let flags = flags.clone()?;
     let (pipe, line) = one_line(alloc, MOST_COLLECTED)?;
     Ok((Piped::new(alloc, pipe, flags, linger), line))
-}
-
-// `sip:ua@` and the local IP.
-fn own_uri(alloc: Global, local: Addr) -> Result<Uri, AllocError> {
-    let [_a, _b, _c, _d] = local.ip;
-    let mut text = Text::copy_of(alloc, b"sip:ua@")?;
-    text.extend_from_slice(&ip_text(local.ip))?;
-    Ok(Uri::from_text(text))
-}
-
-// No other agents.
-fn alone<U: User>(alloc: Global) -> Vec<OtherAgent<U, Vec<u8>>> {
-    Vec::new(alloc)
 }
 
 /// The ends of the listener's lines belong to their posters.
@@ -281,7 +238,11 @@ fn bell_of<N: Net>(rt: &N, alloc: Global) -> Result<Arc<Bell>, UaFault> {
     }
 }
 
-fn flags_with(alloc: Global, bell: Option<Arc<Bell>>) -> Result<Arc<Flags>, UaFault> {
+fn flags_with(alloc: Global, bell: Option<&Arc<Bell>>) -> Result<Arc<Flags>, UaFault> {
+    let bell = match bell {
+        Some(bell) => Some(bell.clone()?),
+        None => None,
+    };
     match Arc::new(alloc, Flags::with_bell(bell)) {
         Ok(flags) => Ok(flags),
         Err(_) => Err(UaFault::NoMemory),
@@ -320,31 +281,37 @@ impl Ears {
     }
 }
 
-// Starts the listener, takes the turns of all agents, and joins the listener.
-fn talk<
-    R: Threads + Clock + Files + Sync,
-    U: User + Send,
-    F: RecordFile,
-    W: Write,
-    O: Write + Send + Drop,
-    E: Write,
->(
+// Opens the stations of all agents at an endpoint, and runs them.
+fn talk<R: Threads + Clock + Files + Sync, U: User + Send, F: RecordFile, W: Write, E: Write>(
     rt: &R,
     alloc: Global,
     endpoint: Endpoint<F>,
     user: U,
-    others: Vec<OtherAgent<U, O>>,
+    others: Vec<OtherAgent<U>>,
     bell: Option<Arc<Bell>>,
-    turns: u64,
     notices: &mut W,
     errors: &mut E,
 ) -> Result<(), UaFault> {
-    let local = endpoint.config.local;
-    let is_announced = endpoint.is_announced;
-    let flags = flags_with(alloc, bell.clone()?)?;
-    let ears = Ears::new(alloc, &endpoint.socket, &flags)?;
     let (own, line) = Station::open(rt, alloc, endpoint, user, bell, notices, errors)?;
     let (others, lines) = open_others(rt, alloc, &own, line, others)?;
+    run_heard(rt, alloc, own, others, lines, notices, errors)
+}
+
+// Starts the listener, which posts to these lines, takes the turns of all agents, and joins the
+// listener.
+fn run_heard<R: Threads + Clock + Files + Sync, U: User + Send, F: RecordFile, W: Write, E: Write>(
+    rt: &R,
+    alloc: Global,
+    own: Station<U, F>,
+    others: Vec<OtherStation<U>>,
+    lines: Vec<Poster<Event>>,
+    notices: &mut W,
+    errors: &mut E,
+) -> Result<(), UaFault>
+    requires { AllZip IsPosterOf (desks_of own others.items) lines.items }
+{
+    let flags = flags_with(alloc, own.turns.bell())?;
+    let ears = Ears::new(alloc, &own.outlet.socket, &flags)?;
     let of_lines = OfLines(Snapshot::of(&lines));
     let listening = move || -> Heard
         ensures { IfSome result.ends (λ ends. AllZip EndsLine lines.items ends.items) }
@@ -352,19 +319,13 @@ fn talk<
     let Ok(listener) = thread::spawn_with(rt, of_lines, listening) else {
         return Err(UaFault::Socket);
     };
-    if is_announced {
-        let _ = writeln!(errors, "ua: ready at {local}");
-    }
-    let (own, ran) = run_all(rt, turns, &flags, own, others, notices, errors);
+    own.announce(errors);
+    let (mut own, ran) = run_all(rt, &flags, own, others, notices, errors);
     flags.stop.store(true, Ordering::SeqCst);
     let heard = listener.join(rt);
-    let lost = if own.turns.is_counted() {
-        system_drops(rt, alloc, local)
-    } else {
-        None
-    };
+    let by_system = own.system_drops(rt, alloc);
     let others = ran?;
-    conclude(own, others, heard, lost, errors)
+    conclude(&mut own, others, heard, by_system, errors)
 }
 
 fn timed_clone(socket: &UdpSocket) -> io::Result<UdpSocket> {

@@ -9,9 +9,10 @@ use crate::admission::Admission;
 use crate::bell::Bell;
 use crate::counts::{Counts, Losses};
 use crate::division::Division;
+use crate::endpoint::Endpoint;
 use crate::fault::{UaFault, refused_round};
 use crate::notices::{Telling, put, write_ids, write_notices};
-use crate::outlet::Outlet;
+use crate::outlet::{CountedSocket, Outlet};
 use crate::past::Past;
 use crate::record::Record;
 use crate::record_file::RecordFile;
@@ -22,7 +23,7 @@ use sip_desk::Desk;
 use sip_files::FileKind;
 use sip_journal::{LinesFault, read_round};
 use sip_message::Spread;
-use sip_round::{Agent, Config, Event, OpenGate, Output, PlacedOutput, Round, RoundFault};
+use sip_round::{Agent, Event, OpenGate, Output, PlacedOutput, Round};
 use sip_text::Series;
 use std::alloc::{AllocError, Global};
 use std::io::Write;
@@ -30,7 +31,7 @@ use std::mem;
 use std::sync::Arc;
 use std::sync::atomic::{AtomicBool, Ordering};
 use std::thread::{self, Threads};
-use std::time::{Clock, Duration, Instant};
+use std::time::{Clock, Duration, Instant, SystemTime};
 
 /// How many datagrams, or lines of a pipe, are collected at one time at most.
 pub(crate) const MOST_COLLECTED: usize = 1024;
@@ -56,8 +57,14 @@ enum TurnEnd {
     Full,
 }
 
-/// An agent between two turns.
+/// A round of a journal that was run again.
 #[derive(Drop)]
+struct PastRound {
+    round: Round,
+    outputs: Vec<PlacedOutput>,
+}
+
+/// An agent between two turns.
 pub(crate) struct Turns<U, F> {
     alloc: Global,
     agent: Agent<Spread>,
@@ -68,6 +75,8 @@ pub(crate) struct Turns<U, F> {
     record: Record<F>,
     // The kind of file whose lines tell the notices.
     kind: FileKind,
+    // How many turns there are, and how long they go on.
+    turns: u64,
     limit: TimeLimit,
     admission: Admission,
     // Whether drops are told.
@@ -86,46 +95,72 @@ pub(crate) struct Turns<U, F> {
     waiting: Vec<Event>,
 }
 
+impl<U: Drop, F: Drop> Drop for Turns<U, F> {
+    fn drop(self) {
+        let Turns {
+            alloc: _,
+            agent: _,
+            user: _,
+            bell: _,
+            division: _,
+            record: _,
+            kind: _,
+            turns: _,
+            limit: _,
+            admission: _,
+            drops: _,
+            tells_ids: _,
+            counts: _,
+            start: _,
+            base: _,
+            moment: _,
+            number: _,
+            waiting: _,
+        } = self;
+    }
+}
+
 impl<U: User, F: RecordFile> Turns<U, F> {
-    /// The turns before the first one, at the moment `base`. The head of a record that is new is
-    /// written.
+    /// The turns of a user at an endpoint, before the first one. They take the endpoint's record; the
+    /// head of one that is new is written.
+    ///
+    /// # Errors
+    ///
+    /// `Socket` if the clock fails; `Journal` or `NoMemory`.
     pub(crate) fn new<R: Clock, E: Write>(
         rt: &R,
         alloc: Global,
-        config: Config,
-        division: Division,
-        mut record: Record<F>,
-        base: u64,
-        kind: FileKind,
-        limit: TimeLimit,
-        admission: Admission,
-        drops: bool,
-        tells_ids: bool,
-        is_counted: bool,
+        endpoint: &mut Endpoint<F>,
         mut user: U,
         bell: Option<Arc<Bell>>,
         errors: &mut E,
     ) -> Result<Turns<U, F>, UaFault> {
-        let agent = Agent::new(alloc, config, division.shards, Spread)?;
+        let (start, base) = beginning(rt, endpoint.past.is_some())?;
+        let config = endpoint.config;
         let mut waiting = Vec::new(alloc);
         user.begin(alloc, &mut waiting)?;
-        let Ok(start) = Instant::now(rt) else {
-            return Err(UaFault::Socket);
-        };
+        let mut record = endpoint.take_record();
         record.begin(alloc, &config, errors)?;
+        let agent = Agent::new(alloc, config, endpoint.division.shards, Spread)?;
+        let counts = if endpoint.is_counted {
+            Some(Counts::new(alloc, config.local))
+        } else {
+            None
+        };
         Ok(Turns {
             alloc,
             agent,
+            drops: endpoint.tells_drops || user.is_eager(),
             user,
             bell,
-            division,
+            division: endpoint.division,
             record,
-            kind,
-            limit,
-            admission,
-            drops,
-            tells_ids,
-            counts: is_counted.then(|| Counts::new(alloc, config.local)),
+            kind: endpoint.kind,
+            turns: endpoint.turns,
+            limit: TimeLimit::new(endpoint.seconds, endpoint.input.take()),
+            admission: Admission::new(endpoint.held_limit),
+            tells_ids: endpoint.tells_ids,
+            counts,
             start,
             base,
             moment: 0,
@@ -144,20 +179,48 @@ impl<U: User, F: RecordFile> Turns<U, F> {
     pub(crate) fn resume<R: Threads + Clock + Sync, W: Write, E: Write>(
         &mut self,
         rt: &R,
-        mut past: Past,
+        past: &mut Past,
         notices: &mut W,
         errors: &mut E,
     ) -> Result<(), UaFault> {
+        let last = self.run_past(rt, past, errors)?;
+        self.restart_clock(rt)?;
+        match last {
+            Some(last) => self.tell_again(&last, notices),
+            None => Ok(()),
+        }
+    }
+
+    // Runs the rounds of the journal again, and gives the last one. What isn't whole behind it is
+    // cut off.
+    fn run_past<R: Threads + Clock + Sync, E: Write>(
+        &mut self,
+        rt: &R,
+        past: &mut Past,
+        errors: &mut E,
+    ) -> Result<Option<PastRound>, UaFault> {
         let mut last = None;
         let mut whole = past.given();
         for _ in 0..u64::MAX {
-            let Some(outcome) = self.run_next(rt, &mut past, errors)? else {
+            if !self.run_next(rt, past, &mut last, errors)? {
                 break;
-            };
-            last = Some(outcome);
+            }
             whole = past.given();
         }
-        let left_out = past.read().saturating_sub(whole);
+        self.cut(past.read(), whole, errors)?;
+        Ok(last)
+    }
+
+    // Moments go on by the clock from here.
+    fn restart_clock<R: Clock>(&mut self, rt: &R) -> Result<(), UaFault> {
+        self.base = self.moment_now(rt)?;
+        self.start = time_now(rt)?;
+        Ok(())
+    }
+
+    // Leaves only so many bytes of the journal, of which this much was read.
+    fn cut<E: Write>(&mut self, read: u64, whole: u64, errors: &mut E) -> Result<(), UaFault> {
+        let left_out = read.saturating_sub(whole);
         if left_out > 0 {
             self.record.cut(whole)?;
             let _ = writeln!(
@@ -165,32 +228,28 @@ impl<U: User, F: RecordFile> Turns<U, F> {
                 "ua: {left_out} bytes at the end of the journal left out"
             );
         }
-        self.base = self.moment_now(rt)?;
-        let Ok(start) = Instant::now(rt) else {
-            return Err(UaFault::Socket);
-        };
-        self.start = start;
-        match last {
-            Some((round, outputs)) => self.tell_again(&round, &outputs, notices),
-            None => Ok(()),
-        }
+        Ok(())
     }
 
-    // Runs the next round of the journal again, and gives it with its outputs. None at the end, or
-    // if the last round isn't whole.
+    // Runs the next round of the journal again, as the last one so far. Says whether there was one:
+    // not at the end, or if the last round isn't whole.
     fn run_next<R: Threads + Clock + Sync, E: Write>(
         &mut self,
         rt: &R,
         past: &mut Past,
+        last: &mut Option<PastRound>,
         errors: &mut E,
-    ) -> Result<Option<(Round, Vec<PlacedOutput>)>, UaFault> {
+    ) -> Result<bool, UaFault> {
         let Some(lines) = self.record.next_lines(past)? else {
-            return Ok(None);
+            return Ok(false);
         };
         match read_round(self.alloc, &lines) {
-            Ok(round) => Ok(Some(self.run_again(rt, round, errors)?)),
+            Ok(round) => {
+                self.run_again(rt, round, last, errors)?;
+                Ok(true)
+            }
             Err(LinesFault::NoMemory) => Err(UaFault::NoMemory),
-            Err(_) if past.is_over() => Ok(None),
+            Err(_) if past.is_over() => Ok(false),
             Err(fault) => Err(UaFault::JournalLines {
                 number: self.number,
                 fault,
@@ -203,8 +262,19 @@ impl<U: User, F: RecordFile> Turns<U, F> {
         &mut self,
         rt: &R,
         round: Round,
+        last: &mut Option<PastRound>,
         errors: &mut E,
-    ) -> Result<(Round, Vec<PlacedOutput>), UaFault> {
+    ) -> Result<(), UaFault> {
+        self.skip_asked(&round, errors)?;
+        let outputs = self.run(rt, &round)?;
+        self.number = self.number.saturating_add(1);
+        self.tell_user(&outputs)?;
+        *last = Some(PastRound { round, outputs });
+        Ok(())
+    }
+
+    // Leaves out what the user asks for in a past round.
+    fn skip_asked<E: Write>(&mut self, round: &Round, errors: &mut E) -> Result<(), AllocError> {
         if !self.user.is_eager() {
             let (now, left) = (round.moment, TimeLeft::More);
             self.user
@@ -212,51 +282,53 @@ impl<U: User, F: RecordFile> Turns<U, F> {
         }
         let asked = commands_in(round.events.as_slice()).min(self.waiting.len());
         self.waiting = self.waiting.split_off(asked)?;
-        match self.run(rt, &round) {
-            Ok(outputs) => {
-                self.moment = round.moment;
-                self.number = self.number.saturating_add(1);
-                self.tell_user(&outputs)?;
-                Ok((round, outputs))
-            }
-            Err(fault) => Err(refused_round(self.number, fault)),
-        }
+        Ok(())
     }
 
     // Tells the notices of the last round of a journal, after the line `resumed` with its number.
-    fn tell_again<W: Write>(
+    fn tell_again<W: Write>(&self, last: &PastRound, notices: &mut W) -> Result<(), UaFault> {
+        let number = self.number.saturating_sub(1);
+        let line = format!(in self.alloc; "resumed {number}\n")?;
+        if put(notices, line.as_bytes()).is_err() {
+            return Err(UaFault::Output);
+        }
+        self.write(None, &last.round, &last.outputs, notices)
+    }
+
+    // Writes the notices of a round, and its drops if its number is given.
+    fn write<W: Write>(
         &self,
+        drops: Option<u64>,
         round: &Round,
         outputs: &[PlacedOutput],
         notices: &mut W,
     ) -> Result<(), UaFault> {
-        let number = self.number.saturating_sub(1);
-        let line = format!(in self.alloc; "resumed {number}\n")?;
-        put(notices, line.as_bytes()).map_err(|_| UaFault::Output)?;
         let telling = Telling {
             kind: self.kind,
-            drops: None,
+            drops,
         };
         let events = round.events.as_slice();
         write_notices(self.alloc, notices, telling, events, outputs)?;
-        notices.flush().map_err(|_| UaFault::Output)
+        match notices.flush() {
+            Ok(()) => Ok(()),
+            Err(_) => Err(UaFault::Output),
+        }
     }
 
-    /// Takes `turns` turns, or fewer if the time is over, the user wants no more, or the listener
-    /// has ended.
-    pub(crate) fn take<R: Threads + Clock + Sync, O: Outlet, W: Write, E: Write>(
+    /// Takes its turns: fewer than the endpoint says if the time is over, the user wants no more, or
+    /// the listener has ended.
+    pub(crate) fn take<R: Threads + Clock + Sync, W: Write, E: Write>(
         &mut self,
         rt: &R,
-        turns: u64,
         desk: &mut Desk<Event>,
-        outlet: &mut O,
+        outlet: &mut CountedSocket,
         notices: &mut W,
         errors: &mut E,
         listener_ended: &AtomicBool,
     ) -> Result<(), UaFault>
         ensures { KeepsLines desk.old desk.new }
     {
-        for turns_left in (0..turns).rev() {
+        for turns_left in (0..self.turns).rev() {
             if listener_ended.load(Ordering::SeqCst) {
                 break;
             }
@@ -271,24 +343,24 @@ impl<U: User, F: RecordFile> Turns<U, F> {
     }
 
     // A turn: a round, and others while they are full.
-    fn turn<R: Threads + Clock + Sync, O: Outlet, W: Write, E: Write>(
+    fn turn<R: Threads + Clock + Sync, W: Write, E: Write>(
         &mut self,
         rt: &R,
         turns_left: u64,
         desk: &mut Desk<Event>,
-        outlet: &mut O,
+        outlet: &mut CountedSocket,
         notices: &mut W,
         errors: &mut E,
     ) -> Result<TurnEnd, UaFault>
         ensures { KeepsLines desk.old desk.new }
     {
         for _ in 0..MOST_ROUNDS {
-            self.gather(rt, turns_left, desk, errors)?;
             let now = self.moment_now(rt)?;
+            self.gather(now, turns_left, desk, errors)?;
             if self.limit.is_past(self.passed_at(now)) || self.user.is_over(now, self.holds()) {
                 return Ok(TurnEnd::Over);
             }
-            let is_full = self.is_due(now) && self.round(rt, outlet, notices, errors)?;
+            let is_full = self.is_due(now) && self.round(rt, now, outlet, notices, errors)?;
             if !is_full {
                 return Ok(TurnEnd::Done);
             }
@@ -307,6 +379,11 @@ impl<U: User, F: RecordFile> Turns<U, F> {
         } else {
             Err(UaFault::NotAnswered)
         }
+    }
+
+    /// The bell at which it waits.
+    pub(crate) fn bell(&self) -> Option<&Arc<Bell>> {
+        self.bell.as_ref()
     }
 
     /// Whether the counts are to be written.
@@ -337,16 +414,15 @@ impl<U: User, F: RecordFile> Turns<U, F> {
     }
 
     // Gathers what the user asks for by itself, and what was posted, unless a full round waits.
-    fn gather<R: Clock, E: Write>(
+    fn gather<E: Write>(
         &mut self,
-        rt: &R,
+        now: u64,
         turns_left: u64,
         desk: &mut Desk<Event>,
         errors: &mut E,
     ) -> Result<(), UaFault>
         ensures { KeepsLines desk.old desk.new }
     {
-        let now = self.moment_now(rt)?;
         let passed = self.passed_at(now);
         self.limit.look(passed);
         if self.waiting.len() >= self.most_events() {
@@ -373,30 +449,70 @@ impl<U: User, F: RecordFile> Turns<U, F> {
         has_cause || !(self.user.is_eager() || self.record.is_journal())
     }
 
-    // A round, whose outputs are sent and told. Gives whether it had as many events as it may have.
-    fn round<R: Threads + Clock + Sync, O: Outlet, W: Write, E: Write>(
+    // A round at this moment with the waiting events. Those above its limit go on waiting. Gives
+    // whether it had as many events as it may have.
+    fn round<R: Threads + Clock + Sync, W: Write, E: Write>(
         &mut self,
         rt: &R,
-        outlet: &mut O,
+        now: u64,
+        outlet: &mut CountedSocket,
         notices: &mut W,
         errors: &mut E,
     ) -> Result<bool, UaFault> {
-        let number = self.number;
-        let (round, outputs) = self.run_round(rt, errors)?;
-        self.number = number.saturating_add(1);
-        self.send(outlet, &outputs)?;
-        self.tell_user(&outputs)?;
-        let telling = Telling {
-            kind: self.kind,
-            drops: self.drops.then_some(number),
+        let events = self.events_of_round()?;
+        let is_full = events.len() >= self.most_events();
+        let round = Round {
+            moment: now,
+            events,
         };
-        let events = round.events.as_slice();
-        if self.tells_ids {
-            write_ids(self.alloc, notices, number, events)?;
+        self.run_new(rt, &round, outlet, notices, errors)?;
+        Ok(is_full)
+    }
+
+    // Runs a new round, and records it before its outputs are sent and told.
+    fn run_new<R: Threads + Clock + Sync, W: Write, E: Write>(
+        &mut self,
+        rt: &R,
+        round: &Round,
+        outlet: &mut CountedSocket,
+        notices: &mut W,
+        errors: &mut E,
+    ) -> Result<(), UaFault> {
+        let outputs = self.run(rt, round)?;
+        self.keep(round, &outputs, errors)?;
+        self.tell(round, &outputs, outlet, notices)
+    }
+
+    // Records and counts a round.
+    fn keep<E: Write>(
+        &mut self,
+        round: &Round,
+        outputs: &[PlacedOutput],
+        errors: &mut E,
+    ) -> Result<(), UaFault> {
+        self.record.add(self.alloc, round, errors)?;
+        if let Some(counts) = &mut self.counts {
+            counts.add(self.number, round, outputs, self.agent.live())?;
         }
-        write_notices(self.alloc, notices, telling, events, &outputs)?;
-        notices.flush().map_err(|_| UaFault::Output)?;
-        Ok(events.len() >= self.most_events())
+        Ok(())
+    }
+
+    // Sends and tells the outputs of a round.
+    fn tell<W: Write>(
+        &mut self,
+        round: &Round,
+        outputs: &[PlacedOutput],
+        outlet: &mut CountedSocket,
+        notices: &mut W,
+    ) -> Result<(), UaFault> {
+        let number = self.number;
+        self.number = number.saturating_add(1);
+        self.send(outlet, outputs)?;
+        self.tell_user(outputs)?;
+        if self.tells_ids {
+            write_ids(self.alloc, notices, number, round.events.as_slice())?;
+        }
+        self.write(self.drops.then_some(number), round, outputs, notices)
     }
 
     // Sends the outputs. What failed waits for the next round.
@@ -430,8 +546,10 @@ impl<U: User, F: RecordFile> Turns<U, F> {
             Some(due) => due.saturating_sub(self.moment_now(rt)?).clamp(1, PAUSE),
             None => PAUSE,
         };
-        bell.wait(Duration::from_millis(left))
-            .map_err(|_| UaFault::Socket)
+        match bell.wait(Duration::from_millis(left)) {
+            Ok(()) => Ok(()),
+            Err(_) => Err(UaFault::Socket),
+        }
     }
 
     // Puts what was posted and is admitted behind what waits.
@@ -444,38 +562,23 @@ impl<U: User, F: RecordFile> Turns<U, F> {
         Ok(())
     }
 
-    // Runs a round with the waiting events, records it, and gives it with its outputs. Events above
-    // its limit go on waiting.
-    fn run_round<R: Threads + Clock + Sync, E: Write>(
-        &mut self,
-        rt: &R,
-        errors: &mut E,
-    ) -> Result<(Round, Vec<PlacedOutput>), UaFault> {
-        let moment = self.moment_now(rt)?;
-        let events = self.events_of_round()?;
-        let round = Round { moment, events };
-        match self.run(rt, &round) {
-            Ok(outputs) => {
-                self.moment = moment;
-                self.record.add(self.alloc, &round, errors)?;
-                if let Some(counts) = &mut self.counts {
-                    counts.add(self.number, &round, &outputs, self.agent.live())?;
-                }
-                Ok((round, outputs))
-            }
-            Err(fault) => Err(refused_round(self.number, fault)),
-        }
-    }
-
-    // Runs a round on as many threads as the division says.
+    // Runs a round on as many threads as the division says, and gives its outputs.
     fn run<R: Threads + Sync>(
         &mut self,
         rt: &R,
         round: &Round,
-    ) -> Result<Vec<PlacedOutput>, RoundFault> {
+    ) -> Result<Vec<PlacedOutput>, UaFault> {
         let workers = self.division.workers_of(round.events.len());
-        self.agent
+        match self
+            .agent
             .run_round_with_places(rt, round, workers, &OpenGate)
+        {
+            Ok(outputs) => {
+                self.moment = round.moment;
+                Ok(outputs)
+            }
+            Err(fault) => Err(refused_round(self.number, fault)),
+        }
     }
 
     fn events_of_round(&mut self) -> Result<Series<Event>, AllocError> {
@@ -496,10 +599,7 @@ impl<U: User, F: RecordFile> Turns<U, F> {
 
     // The moment by the clock, in ms. It doesn't go back.
     fn moment_now<R: Clock>(&self, rt: &R) -> Result<u64, UaFault> {
-        let Ok(now) = Instant::now(rt) else {
-            return Err(UaFault::Socket);
-        };
-        let passed = now.duration_since(self.start).as_millis();
+        let passed = time_now(rt)?.duration_since(self.start).as_millis();
         let passed = u64::try_from(passed).unwrap_or(u64::MAX);
         Ok(self.base.saturating_add(passed).max(self.moment))
     }
@@ -517,6 +617,31 @@ impl<U: User, F: RecordFile> Turns<U, F> {
             }
         }
         Ok(())
+    }
+}
+
+// The time by the clock.
+fn time_now<R: Clock>(rt: &R) -> Result<Instant, UaFault> {
+    match Instant::now(rt) {
+        Ok(now) => Ok(now),
+        Err(_) => Err(UaFault::Socket),
+    }
+}
+
+// When the turns begin, and the moment of that, in ms: 0, or since 1970 if they have a journal.
+fn beginning<R: Clock>(rt: &R, has_journal: bool) -> Result<(Instant, u64), UaFault> {
+    let base = if has_journal { since_1970(rt)? } else { 0 };
+    Ok((time_now(rt)?, base))
+}
+
+// The ms since 1970.
+fn since_1970<R: Clock>(rt: &R) -> Result<u64, UaFault> {
+    let Ok(now) = SystemTime::now(rt) else {
+        return Err(UaFault::Socket);
+    };
+    match now.duration_since(SystemTime::UNIX_EPOCH) {
+        Ok(passed) => Ok(u64::try_from(passed.as_millis()).unwrap_or(u64::MAX)),
+        Err(_) => Err(UaFault::Socket),
     }
 }
 

@@ -100,8 +100,8 @@ pub(crate) fn wrong_word(
 ) -> Result<WrongWord, AllocError> {
     let (keyword, mut left) = first_word(line);
     let fields = match kind {
-        FileKind::Session if keyword == b"abandon".as_slice() => fields_of_abandon(alloc, line)?,
-        FileKind::Session | FileKind::Events => fields_of(alloc, keyword)?,
+        FileKind::Session if keyword == b"abandon".as_slice() => fields_of_abandon(line),
+        FileKind::Session | FileKind::Events => fields_of(keyword),
     };
     if fields.is_empty() {
         return Ok(WrongWord {
@@ -150,76 +150,59 @@ fn commands_of(kind: FileKind) -> &'static str {
 }
 
 // The fields of `abandon`: those of a dialog if it has four words, otherwise those of a request.
-fn fields_of_abandon(alloc: Global, line: &[u8]) -> Result<Vec<Field>, AllocError> {
+fn fields_of_abandon(line: &[u8]) -> &'static [Field] {
     let spaces = line.iter().filter(|byte| **byte == b' ').count();
     if spaces < WORDS_OF_A_DIALOG {
-        Vec::from_slice(alloc, &[Field::CallId, Field::RequestId])
+        &[Field::CallId, Field::RequestId]
     } else {
-        Vec::from_slice(alloc, &[Field::CallId, Field::LocalTag, Field::RemoteTag])
+        &[Field::CallId, Field::LocalTag, Field::RemoteTag]
     }
 }
 
 // The fields of the command with this name; none if there is no such command.
-fn fields_of(alloc: Global, keyword: &[u8]) -> Result<Vec<Field>, AllocError> {
-    match str::from_utf8(keyword) {
-        Ok("invite") => Vec::from_slice(
-            alloc,
-            &[
-                Field::CallId,
-                Field::Address,
-                Field::RequestUri,
-                Field::FromUri,
-                Field::ToUri,
-                Field::Support,
-                Field::Body,
-            ],
-        ),
-        Ok("plain") => Vec::from_slice(
-            alloc,
-            &[
-                Field::CallId,
-                Field::Address,
-                Field::Method,
-                Field::RequestUri,
-                Field::FromUri,
-                Field::ToUri,
-                Field::Body,
-            ],
-        ),
-        Ok("request") => {
-            Vec::from_slice(
-                alloc,
-                &[
-                    Field::CallId,
-                    Field::LocalTag,
-                    Field::RemoteTag,
-                    Field::Method,
-                    Field::Body,
-                ],
-            )
-        }
-        Ok("respond") => Vec::from_slice(
-            alloc,
-            &[
-                Field::CallId,
-                Field::RequestId,
-                Field::Status,
-                Field::Reliability,
-                Field::Body,
-                Field::Reason,
-            ],
-        ),
-        Ok("ack" | "prack") => Vec::from_slice(
-            alloc,
-            &[
-                Field::CallId,
-                Field::LocalTag,
-                Field::RemoteTag,
-                Field::Body,
-            ],
-        ),
-        Ok("cancel") => Vec::from_slice(alloc, &[Field::CallId, Field::RequestId]),
-        _ => Ok(Vec::new(alloc)),
+fn fields_of(keyword: &[u8]) -> &'static [Field] {
+    match keyword {
+        b"invite" => &[
+            Field::CallId,
+            Field::Address,
+            Field::RequestUri,
+            Field::FromUri,
+            Field::ToUri,
+            Field::Support,
+            Field::Body,
+        ],
+        b"plain" => &[
+            Field::CallId,
+            Field::Address,
+            Field::Method,
+            Field::RequestUri,
+            Field::FromUri,
+            Field::ToUri,
+            Field::Body,
+        ],
+        b"request" => &[
+            Field::CallId,
+            Field::LocalTag,
+            Field::RemoteTag,
+            Field::Method,
+            Field::Body,
+        ],
+        b"respond" => &[
+            Field::CallId,
+            Field::RequestId,
+            Field::Status,
+            Field::Reliability,
+            Field::Body,
+            Field::Reason,
+        ],
+        b"ack" | b"prack" => &[
+            Field::CallId,
+            Field::LocalTag,
+            Field::RemoteTag,
+            Field::Body,
+        ],
+        b"cancel" => &[Field::CallId, Field::RequestId],
+        _ => &[],
     }
 }
 

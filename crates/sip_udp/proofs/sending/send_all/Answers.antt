@@ -3,12 +3,12 @@ use Rattle.std.proofs.Common.{rules}
 use Rattle.sip_udp.proofs.Sendings.{begun, goes_on}
 use Rattle.sip_udp.proofs.sending.send_all.Goals as goal
 
-pub loop-failure-init : goal.loop-failure-init
-loop-failure-init g c = begun _ _ _ _ _ (search rules) (search rules) (search rules)
+pub loop-key-init : goal.loop-key-init
+loop-key-init g c = begun _ _ _ _ _ (search rules) (search rules) (search rules)
 
-pub loop-failure-preserved : goal.loop-failure-preserved
-loop-failure-preserved g c =
+pub loop-key-preserved : goal.loop-key-preserved
+loop-key-preserved g c =
     let sends = c.send_one.ensures.sends in
     rw c.send_one.ensures.room (goes_on _ _ _ _ _ _ _ _ _ _ _ c.in-Some-split_first.placed.now
-    c.in-Some.failure sends.0 c.loop-failure.invariant (search rules)
+    c.in-Some.key sends.0 c.loop-key.invariant (search rules)
     (search rules) sends.1 sends.2)

@@ -1,11 +1,11 @@
--- `talk`: the ends that are settled belong to the lines of the desks.
+-- `run_heard`: the ends that are settled belong to the lines of the desks.
 use Rattle.std.proofs.Common.{IfOk, IfSome, subst, sym}
 use Rattle.std.specs.List.{AllZip}
 use Rattle.sip_desk.specs.Lines.{KeepsLines}
 use Rattle.sip_udp.specs.Hearing.{EndsLine}
 use Rattle.sip_udp.specs.Stations.{KeepsItsLine, desks_of}
 use Rattle.sip_udp.proofs.StationLines.{some_end, zip_map}
-use Rattle.sip_udp.proofs.talk.talk.Goals as goal
+use Rattle.sip_udp.proofs.talk.run_heard.Goals as goal
 
 pub spawn_with-requires-clause-keeps : goal.spawn_with-requires-clause-keeps
 spawn_with-requires-clause-keeps g c = λ lifetimes lives heard ends.
@@ -21,12 +21,12 @@ conclude-requires g c =
     (λ ends. AllZip EndsLine promise.0.value.items ends.items)) c.in-Ok.ensures.ok
     c.join-heard.ensures) in
     let kept = subst
-    (λ ran. IfOk ran (λ ran. AllZip KeepsItsLine c.in_ok-others.others.items ran.items))
-    c.in_ok-others-2.was c.run_all-own.ensures.others in
-    some_end (λ ends. ends.items) (desks_of c.in_ok-own.own c.in_ok-others.others.items)
-    (desks_of c.run_all-own.result.0 c.in_ok-others-2.others.items) c.in_ok-others.lines.items
-    c.join-heard.result.ends c.in_ok-others.ensures (
+    (λ ran. IfOk ran (λ ran. AllZip KeepsItsLine c.args.others.items ran.items))
+    c.in_ok-others.was c.run_all-own.ensures.others in
+    some_end (λ ends. ends.items) (desks_of c.args.own c.args.others.items)
+    (desks_of c.run_all-own.result.0 c.in_ok-others.others.items) c.args.lines.items
+    c.join-heard.result.ends c.requires (
       c.run_all-own.ensures.own,
-      zip_map KeepsLines (λ other. other.station.desk) c.in_ok-others.others.items
-          c.in_ok-others-2.others.items kept,
+      zip_map KeepsLines (λ other. other.station.desk) c.args.others.items
+          c.in_ok-others.others.items kept,
     ) ends

@@ -2,7 +2,7 @@
 use Rattle.std.proofs.Common.{◌≡◌, ◌++◌, codes, arith, rules}
 use Rattle.sip_message.specs.Ip.{ip_text}
 use Rattle.sip_udp.proofs.OwnUri.{own_uri}
-use Rattle.sip_udp.proofs.talk.own_uri.Goals as goal
+use Rattle.sip_udp.proofs.calling.own_uri.Goals as goal
 
 pub from_text-requires : goal.from_text-requires
 from_text-requires c =
