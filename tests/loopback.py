@@ -32,10 +32,11 @@ def free_address():
 
 
 class Peer:
-    """A socket that talks to a program at another address, and all that came to it."""
+    """A socket that talks to a program at another address, all that came to it, and what it asked
+    last."""
 
-    def __init__(self, other):
-        self.other, self.socket, self.came = other, bound(), []
+    def __init__(self, other, host="127.0.0.1"):
+        self.other, self.socket, self.came, self.asked = other, bound(host), [], None
         self.address = address_of(self.socket)
 
     def __enter__(self):
@@ -73,12 +74,13 @@ class Peer:
     def ask(self, method, call, number=1, to_tag="", body="", headers=""):
         """Sends a request of a call. Its To has this tag, if one is given."""
         tag = f";tag={to_tag}" if to_tag else ""
-        self.send(
+        self.asked = (
             f"{method} sip:b@{self.other} SIP/2.0\r\n"
             f"Via: SIP/2.0/UDP {self.address};branch=z9hG4bK{call}{method}{number}\r\n"
             f"From: <sip:a@{self.address}>;tag=f\r\nTo: <sip:b@{self.other}>{tag}\r\n"
             f"Call-ID: {call}\r\nCSeq: {number} {method}\r\nContact: <sip:a@{self.address}>\r\n"
             f"{headers}Content-Length: {len(body)}\r\n\r\n{body}")
+        self.send(self.asked)
 
     def answer(self, request, status, tag):
         """Answers a request with this status line, and with this tag in To if it has none."""

@@ -57,6 +57,27 @@ def drops_are_told_and_keep_alives_counted():
 
 
 @test
+def a_response_goes_again_to_whoever_asked_and_to_no_victim():
+    """A request that comes again from its address is answered again; from another one it isn't,
+    since its response would go to the first."""
+    with Running("listen", "--local", ANY, "--stats") as listener, \
+            Peer(listener.ready()) as peer, Peer(peer.other, "127.0.0.2") as other:
+        for _ in range(2):
+            peer.ask("OPTIONS", "c1")
+            is_answered(peer, "200", "c1")
+        for _ in range(3):
+            other.send(peer.asked)
+        # What comes next is answered after these.
+        other.ask("OPTIONS", "c2")
+        is_answered(other, "200", "c2")
+        peer.has_nothing()
+        listener.end_input()
+        ended = listener.ended()
+    expect("status", 0, ended.status)
+    expect_in_order("counts", [", 3 reflected\n"], ended.errors)
+
+
+@test
 def a_listener_that_holds_enough_sheds_requests():
     """One request is held. Then its retransmission is answered, a new one isn't, and one in a
     dialog is."""

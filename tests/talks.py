@@ -1,6 +1,7 @@
 """A listener and a caller: what they tell, record and count, and how they end."""
 
 import re
+import subprocess
 import tempfile
 from pathlib import Path
 
@@ -101,7 +102,7 @@ def the_end_of_the_input_ends_a_caller():
 
 @test
 def an_input_that_is_empty_from_the_start_ends_nothing():
-    ended = ran("listen", "--local", ANY, "--turns", "150", "--stats")
+    ended = ran("listen", "--local", ANY, "--turns", "150", "--stats", stdin=subprocess.DEVNULL)
     expect("status", 0, ended.status)
     expect("rounds", True, count(ended.errors, "rounds") > 110)
 

@@ -6,6 +6,7 @@ pub mod Piping
 pub mod Prepared
 pub mod Receiving
 pub mod Recording
+pub mod Reflected
 pub mod Sending
 pub mod Stations
 pub mod Telling

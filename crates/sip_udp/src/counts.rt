@@ -26,6 +26,8 @@ pub(crate) struct Counts {
     pub(crate) losses: Losses,
     /// Datagrams that weren't taken since too much was held, if there is a limit.
     pub(crate) shed: Option<u64>,
+    /// Responses that weren't sent since their request came again from another address.
+    pub(crate) reflected: u64,
 }
 
 /// The datagrams that were lost on their way in or out.
@@ -61,6 +63,7 @@ impl Counts {
             most_held: 0,
             losses: Losses::default(),
             shed: None,
+            reflected: 0,
         }
     }
 
@@ -104,6 +107,7 @@ impl Counts {
         self.asked = self.asked.saturating_add(other.asked);
         self.again = self.again.saturating_add(other.again);
         self.most_held = self.most_held.saturating_add(other.most_held);
+        self.reflected = self.reflected.saturating_add(other.reflected);
         for dropped in &other.dropped {
             self.add_dropped(dropped.reason, dropped.count)?;
         }
@@ -162,7 +166,12 @@ impl fmt::Display for Counts {
         }
         self.write_sent(f)?;
         write_if_counted(f, self.losses.by_system, "lost by the system")?;
-        write_if_counted(f, self.shed, "shed")
+        write_if_counted(f, self.shed, "shed")?;
+        let reflected = match self.reflected {
+            0 => None,
+            count => Some(count),
+        };
+        write_if_counted(f, reflected, "reflected")
     }
 }
 

@@ -31,6 +31,7 @@ mod piped;
 mod queued_writer;
 mod record;
 mod record_file;
+mod reflected;
 mod sdp;
 mod sending;
 mod sent;

@@ -16,6 +16,7 @@ use crate::outlet::{CountedSocket, Outlet};
 use crate::past::Past;
 use crate::record::Record;
 use crate::record_file::RecordFile;
+use crate::reflected::take_reflected;
 use crate::sending::send_all;
 use crate::time_limit::{TimeLeft, TimeLimit};
 use crate::user::User;
@@ -478,9 +479,18 @@ impl<U: User, F: RecordFile> Turns<U, F> {
         notices: &mut W,
         errors: &mut E,
     ) -> Result<(), UaFault> {
-        let outputs = self.run(rt, round)?;
+        let mut outputs = self.run(rt, round)?;
+        self.leave_out_reflected(round, &mut outputs);
         self.keep(round, &outputs, errors)?;
         self.tell(round, &outputs, outlet, notices)
+    }
+
+    // Leaves out, and counts, the responses that would go to a victim.
+    fn leave_out_reflected(&mut self, round: &Round, outputs: &mut Vec<PlacedOutput>) {
+        let count = take_reflected(round.events.as_slice(), outputs);
+        if let Some(counts) = &mut self.counts {
+            counts.reflected = counts.reflected.saturating_add(count as u64);
+        }
     }
 
     // Records and counts a round.
