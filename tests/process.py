@@ -9,7 +9,7 @@ from collections import namedtuple
 from register import Wrong, shortened
 
 # How long anything may take, in seconds. It is long, since machines may be slow.
-PATIENCE = 60
+PATIENCE = 100
 
 # The path of the program; tests/run sets it.
 program = None
