@@ -159,7 +159,7 @@ def ids_are_told_in_the_order_of_the_commands():
             agent.end_input()
             ended = agent.ended()
     asked = lines_after("asked ", ended.output)
-    expect("refusals", 3, len(re.findall(r"notice c\d refused \d+ 4\n", ended.output)))
+    expect("refusals", 3, len(re.findall(r"notice c\d refused ", ended.output)))
     expect("ids", re.findall(r"notice c\d response (\S+) ", ended.output), asked[::2])
     expect("their order", sorted(set(asked), key=lambda name: [*map(int, name.split("."))]), asked)
     expect("commands", 6, len(asked))

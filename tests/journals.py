@@ -115,7 +115,8 @@ def a_torn_end_is_cut_off():
 
 @test
 def a_call_goes_on_after_a_crash():
-    """The first one is up, the second one rings: both go on, with their ids."""
+    """The first one is up, the second one rings: both go on, with their ids, and nothing that was
+    asked for before is asked for again."""
     with Room() as room:
         local = free_address()
         words = ["listen", "--local", local, "--ring", "2000", "--journal", room.journal]
@@ -136,7 +137,9 @@ def a_call_goes_on_after_a_crash():
                 peer.ask("BYE", "c1", 2, tag)
                 listener.output.next("notice c1 ended ")
                 listener.end_input()
-                expect("status", 0, listener.ended().status)
+                ended = listener.ended()
+        expect("status", 0, ended.status)
+        expect("refusals", False, " refused " in ended.output)
 
 
 @test

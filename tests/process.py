@@ -9,7 +9,7 @@ from collections import namedtuple
 from register import Wrong, shortened
 
 # How long anything may take, in seconds. It is long, since machines may be slow.
-PATIENCE = 60
+PATIENCE = 100
 
 # The path of the program; tests/run sets it.
 program = None
@@ -72,7 +72,8 @@ class Lines:
                         return self.lines[self.seen - 1]
                 left = deadline - time.monotonic()
                 if self.is_over or not self.changed.wait(max(left, 0)):
-                    raise Wrong(f"a line\nwanted: {parts}\ncame:   {shortened(self.lines)}")
+                    raise Wrong(
+                        f"a line\nwanted: {shortened(parts)}\ncame:   {shortened(self.lines)}")
 
     def whole(self):
         """Waits for the end of the stream, and gives all of it."""
@@ -122,5 +123,6 @@ class Running:
         try:
             status = self.process.wait(PATIENCE)
         except subprocess.TimeoutExpired:
-            raise Wrong(f"an end\ncame:   it runs, and told {self.errors.lines}") from None
+            told = shortened(self.errors.lines)
+            raise Wrong(f"an end\ncame:   it runs, and told {told}") from None
         return Ended(status, self.output.whole() if self.output else "", self.errors.whole())

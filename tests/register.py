@@ -25,7 +25,9 @@ def expect_in_order(what, parts, text):
     for part in parts:
         _, found, left = left.partition(part)
         if not found:
-            raise Wrong(f"{what}\nwanted: {part!r}, of {parts}\ncame:   {shortened(text)}")
+            raise Wrong(
+                f"{what}\nwanted: {part!r}, in the order {shortened(parts)}\n"
+                f"came:   {shortened(text)}")
 
 
 def shortened(value):
