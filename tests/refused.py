@@ -5,7 +5,10 @@ import ctypes
 import errno
 import os
 import struct
+import subprocess
 import sys
+
+from register import Skipped
 
 CALLS = {"sendto": 44, "recvfrom": 45, "fdatasync": 75, "getrandom": 318}
 # From linux/prctl.h, linux/seccomp.h, linux/audit.h and linux/bpf_common.h.
@@ -16,7 +19,11 @@ LOAD, IS_EQUAL, RETURN = 0x20, 0x15, 0x06
 
 def refusing(*calls):
     """A script that becomes the program, with these calls refused: each ends in EIO."""
-    return [sys.executable, __file__, ",".join(calls)]
+    script = [sys.executable, __file__, ",".join(calls)]
+    tried = subprocess.run([*script, "/bin/true"], capture_output=True, check=False)
+    if tried.returncode != 0:
+        raise Skipped(f"no seccomp: {tried.stderr.decode(errors='replace').strip()}")
+    return script
 
 
 def refuse(calls):

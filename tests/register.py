@@ -7,6 +7,10 @@ class Wrong(Exception):
     """What isn't as it should be."""
 
 
+class Skipped(Exception):
+    """Why a test can't be run here."""
+
+
 def test(function):
     """Registers a function that returns if all is right, and raises Wrong if not."""
     TESTS[f"{function.__module__}/{function.__name__}"] = function
