@@ -412,11 +412,8 @@ fn journal_run<'a, T: Threads + Host>(
 ) -> Result<Run<T>, Failure<'a>> {
     let mut file = journal_at(rt, alloc, journal)?;
     let mut past = Past::new(alloc);
-    let config = config_in(&mut file, &mut past, journal, words.local, config)?;
-    if words.talker == Talker::Call {
-        if config.first > 0 {
-            return Err(bad_word("--journal", journal.path, "its call is over"));
-        }
+    let config = config_in(&mut file, &mut past, journal, words, config)?;
+    if let Talker::Call = words.talker {
         file.keep_whole();
     }
     Ok(Run {
@@ -436,12 +433,18 @@ fn config_in<'a, T: Threads + Host>(
     file: &mut JournalFile<T>,
     past: &mut Past,
     journal: JournalWords<'a>,
-    local: &'a str,
+    words: EndpointWords<'a>,
     config: Config,
 ) -> Result<Config, Failure<'a>> {
     match past.head(file) {
-        Ok(Some(kept)) if kept.local == config.local => Ok(kept),
-        Ok(Some(_)) => Err(bad_word("--local", local, "not the address of the journal")),
+        Ok(Some(kept)) if kept.local != config.local => {
+            let wanted = "not the address of the journal";
+            Err(bad_word("--local", words.local, wanted))
+        }
+        Ok(Some(kept)) if matches!(words.talker, Talker::Call) && kept.first > 0 => {
+            Err(bad_word("--journal", journal.path, "its call is over"))
+        }
+        Ok(Some(kept)) => Ok(kept),
         Ok(None) => Ok(config),
         Err(fault) => {
             let cause = Cause::Word {

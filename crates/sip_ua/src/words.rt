@@ -49,7 +49,7 @@ pub(crate) enum TalkWords<'a> {
 }
 
 /// A command that has an endpoint.
-#[derive(Clone, Copy, PartialEq, Eq)]
+#[derive(Clone, Copy)]
 pub(crate) enum Talker {
     Listen,
     Call,
