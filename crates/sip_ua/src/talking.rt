@@ -15,11 +15,13 @@ use crate::talk_fault::TalkFault;
 use crate::words::{
     AgentWords, CallWords, EndpointWords, JournalWords, ListenWords, TalkWords, Talker,
 };
-use sip_applications::{AnswerBody, CallPlan, ListenPlan, agent, call_from, listen_at};
 use sip_message::{Addr, CallId, Uri};
 use sip_round::Config;
 use sip_text::Text;
-use sip_udp::{Endpoint, InputEnd, Keeping, Past, QueuedEnd, QueuedWriter, UaFault, Written};
+use sip_udp::{
+    AnswerBody, CallPlan, Endpoint, InputEnd, Keeping, ListenPlan, Past, QueuedEnd, QueuedWriter,
+    UaFault, Written, agent, call_from, listen_at,
+};
 use std::alloc::{AllocError, Global};
 use std::fs::{self, File};
 use std::io::{self, Write};
@@ -54,16 +56,7 @@ fn listen_by<'a, T: Threads + Host, E: Write>(
     let plan = listen_plan(rt, alloc, words)?;
     let endpoint = endpoint_of(rt, alloc, words.endpoint)?;
     let (mut notices, others) = notice_writers(rt, alloc, words.endpoint.division.agents - 1)?;
-    let end = listen_at(
-        rt,
-        alloc,
-        endpoint,
-        plan,
-        words.endpoint.turns,
-        &mut notices,
-        others,
-        errors,
-    );
+    let end = listen_at(rt, alloc, endpoint, plan, &mut notices, others, errors);
     ended(end, notices.finish(rt), errors)
 }
 
@@ -76,8 +69,7 @@ fn call_by<'a, T: Threads + Host, E: Write>(
     let plan = call_plan(rt, alloc, words)?;
     let endpoint = endpoint_of(rt, alloc, words.endpoint)?;
     let mut notices = notice_writer(rt, alloc)?;
-    let turns = words.endpoint.turns;
-    let end = call_from(rt, alloc, endpoint, plan, turns, &mut notices, errors);
+    let end = call_from(rt, alloc, endpoint, plan, &mut notices, errors);
     ended(end, notices.finish(rt), errors)
 }
 
@@ -368,6 +360,7 @@ fn endpoint_with<'a, T: Journals>(
         is_announced: words.is_announced(),
         tells_drops: words.tells_drops,
         tells_ids: words.tells_ids,
+        turns: words.turns,
         seconds: words.seconds,
         held_limit: words.held_limit,
         input,
