@@ -1,11 +1,26 @@
-//! `ua`: the core of a SIP user agent, run on event files.
+//! `ua`: a SIP user agent over UDP, which also runs on event files.
 #![tactic(auto)]
 
-#[cfg(test)]
-mod tests;
+mod compacting;
+mod data_file;
+mod failure;
+mod host;
+mod journal_file;
+mod noting;
+mod options;
+mod program;
+mod receive_buffer;
+mod repair;
+mod shortening;
+mod status;
+mod talk_fault;
+mod talking;
+mod words;
 
-use sip_program::{given_words, no_words, ua};
+use program::ua;
+use status::no_words;
 use std::process::ExitCode;
+use words::given_words;
 
 fn main(rt: HostRuntime) -> ExitCode {
     let status = match given_words(&rt) {
@@ -15,7 +30,6 @@ fn main(rt: HostRuntime) -> ExitCode {
             words.as_slice(),
             &mut rt.stdin(),
             &mut rt.stdout(),
-            rt.stdout(),
             &mut rt.stderr(),
         ),
         Err(error) => no_words(&error, &mut rt.stderr()),
