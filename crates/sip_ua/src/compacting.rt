@@ -1,7 +1,7 @@
 //! What `ua compact` does.
 
 use crate::failure::Failure;
-use crate::host::{Host, Journals};
+use crate::host::{Host, Journals, PRIVATE};
 use crate::talk_fault::TalkFault;
 use crate::talking::{bad_file, bad_word};
 use crate::words::CompactWords;
@@ -12,6 +12,7 @@ use sip_udp::UaFault;
 use std::alloc::Global;
 use std::fs::{self, File, OpenFile, OpenOptions};
 use std::io::{self, Write};
+use std::os::unix::fs::OpenOptionsExt;
 use std::rt::Files;
 use std::thread::Threads;
 
@@ -97,7 +98,7 @@ fn created<'a, T: Journals>(
     journal: &File,
 ) -> Result<File, Failure<'a>> {
     let mut options = OpenOptions::new();
-    options.write(true).create_new(true);
+    options.write(true).create_new(true).mode(PRIVATE);
     let made = match rt.open_journal(&options, words.into) {
         Ok(file) => with_permissions(file, journal),
         Err(error) => Err(error),

@@ -8,9 +8,12 @@ use std::random::RandomSource;
 use std::rt::Files;
 use std::time::Clock;
 
+/// The permissions of a file that this user alone may read: a journal and a record have secrets.
+pub(crate) const PRIVATE: u32 = 0o600;
+
 /// Files, also those of journals.
 pub trait Journals: Files + Copy {
-    /// Opens the file of a journal.
+    /// Opens the file of a journal or a record.
     ///
     /// # Errors
     ///

@@ -1,12 +1,13 @@
 //! The file of a journal. Whenever it has become long, a shorter one takes its place while the run
 //! goes on.
 
-use crate::host::{Host, Journals};
+use crate::host::{Host, Journals, PRIVATE};
 use crate::shortening::{Shortening, Shorter, Task};
 use sip_udp::RecordFile;
 use std::alloc::{AllocError, Global};
 use std::fs::{self, File, OpenFile, OpenOptions};
 use std::io::{self, ErrorKind, Read, Seek, SeekFrom, Write};
+use std::os::unix::fs::OpenOptionsExt;
 use std::rt::Files;
 use std::string::String;
 use std::thread::Threads;
@@ -133,13 +134,14 @@ impl<T: Journals> JournalFile<T> {
     fn new_file(&self) -> io::Result<File> {
         let permissions = self.file.metadata()?.permissions();
         let path = shorter_path(self.alloc, &self.path)?;
-        let file = self.opened_alone(path.as_str())?;
+        remove_shorter(&self.rt, self.alloc, &self.path);
+        let file = self.made_alone(path.as_str())?;
         file.set_permissions(permissions)?;
         Ok(file)
     }
 
-    fn opened_alone(&self, path: &str) -> io::Result<File> {
-        let file = self.rt.open_journal(&appended(), path)?;
+    fn made_alone(&self, path: &str) -> io::Result<File> {
+        let file = self.rt.open_journal(&made(), path)?;
         if self.rt.has_alone(&file, path) {
             Ok(file)
         } else {
@@ -233,7 +235,18 @@ impl<T: Journals + Drop> RecordFile for JournalFile<T> {
 // How the file of a journal is opened.
 fn appended() -> OpenOptions {
     let mut options = OpenOptions::new();
-    options.read(true).append(true).create(true);
+    options.read(true).append(true).create(true).mode(PRIVATE);
+    options
+}
+
+// How the file of a shorter journal is made: a link that somebody put there isn't followed.
+fn made() -> OpenOptions {
+    let mut options = OpenOptions::new();
+    options
+        .read(true)
+        .append(true)
+        .create_new(true)
+        .mode(PRIVATE);
     options
 }
 

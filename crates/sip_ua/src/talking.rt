@@ -8,7 +8,7 @@ ghost use Rattle.sip_ua.specs.Scheme.{is_scheme, is_scheme_byte};
 use crate::compacting::compact_by;
 use crate::data_file::DataFile;
 use crate::failure::{Cause, Failure};
-use crate::host::{Host, Journals};
+use crate::host::{Host, Journals, PRIVATE};
 use crate::journal_file::JournalFile;
 use crate::receive_buffer::ask_for_room;
 use crate::talk_fault::TalkFault;
@@ -23,9 +23,10 @@ use sip_udp::{
     UaFault, Written, agent, call_from, listen_at,
 };
 use std::alloc::{AllocError, Global};
-use std::fs::{self, File};
+use std::fs::{self, OpenOptions};
 use std::io::{self, Write};
 use std::net::{Ipv4Addr, Net, SocketAddrV4, UdpSocket};
+use std::os::unix::fs::OpenOptionsExt;
 use std::random::RandomSource;
 use std::rt::Files;
 use std::sync::Arc;
@@ -472,7 +473,13 @@ fn record_at<'a, T: Journals>(
     let Some(path) = path else {
         return Ok(None);
     };
-    match File::create(rt, path) {
+    let mut options = OpenOptions::new();
+    options
+        .write(true)
+        .create(true)
+        .truncate(true)
+        .mode(PRIVATE);
+    match rt.open_journal(&options, path) {
         Ok(file) => Ok(Some(DataFile::Record(file))),
         Err(error) => Err(bad_file(UaFault::Output, "--record", path, error)),
     }
