@@ -13,7 +13,7 @@ pub(crate) const PRIVATE: u32 = 0o600;
 
 /// Files, also those of journals.
 pub trait Journals: Files + Copy {
-    /// Opens the file of a journal or a record.
+    /// Opens the file of a journal.
     ///
     /// # Errors
     ///

@@ -23,7 +23,7 @@ use sip_udp::{
     UaFault, Written, agent, call_from, listen_at,
 };
 use std::alloc::{AllocError, Global};
-use std::fs::{self, OpenOptions};
+use std::fs::{self, OpenFile, OpenOptions};
 use std::io::{self, Write};
 use std::net::{Ipv4Addr, Net, SocketAddrV4, UdpSocket};
 use std::os::unix::fs::OpenOptionsExt;
@@ -479,7 +479,7 @@ fn record_at<'a, T: Journals>(
         .create(true)
         .truncate(true)
         .mode(PRIVATE);
-    match rt.open_journal(&options, path) {
+    match options.open(rt, path) {
         Ok(file) => Ok(Some(DataFile::Record(file))),
         Err(error) => Err(bad_file(UaFault::Output, "--record", path, error)),
     }
