@@ -1,5 +1,5 @@
 -- The stations of several agents: their lines, and the ends of these.
-use Rattle.std.proofs.Common.{◌≡◌, ℕ, suc, ◌<◌, arith, List, [], ◌∷◌, ◌++◌, length, map, Option, Some, None, IfSome, ap, sym, subst, ◌∙◌}
+use Rattle.std.proofs.Common.{◌≡◌, ℕ, suc, ◌<◌, arith, List, [], ◌∷◌, ◌++◌, length, map, Option, Some, None, IfSome, ap, refl, sym, subst, ◌∙◌}
 use Rattle.std.proofs.lemmas.List.{map-append}
 use Rattle.std.specs.Prelude.{slice_index_or}
 use Rattle.std.specs.List.{AllZip}
@@ -9,7 +9,8 @@ use Rattle.sip_desk.specs.declared.ended.Ended.{Ended}
 use Rattle.sip_desk.specs.declared.poster.Poster.{Poster}
 use Rattle.sip_files.proofs.HeadedLines.{zip_push}
 use Rattle.sip_udp.specs.Hearing.{EndsLine}
-use Rattle.sip_udp.specs.Stations.{EndsStation}
+use Rattle.sip_udp.specs.Stations.{EndsStation, KeepsItsLine}
+use Rattle.sip_udp.specs.declared.other_station.OtherStation.{OtherStation}
 
 module _ {A B : Type 0} (R : A → B → Type 0) where
   zip_last : (xs : List A) (x : A) (ys : List B) (y : B)
@@ -97,3 +98,8 @@ pub some_end : {E X : Type 0} (items : X → List (Option (Ended E))) (firsts la
 some_end items firsts lasts lines None posts keeps all = tt
 some_end items firsts lasts lines (Some es) posts keeps all =
     ends_of_desks firsts lasts lines (items es) posts keeps all
+
+-- a station that stays as it is keeps its line
+pub keeps_same : {U : Type 0} (other : OtherStation U) → KeepsItsLine other other
+keeps_same other =
+    record { count = refl; posters = λ poster is. is; ends = λ ended is. is }

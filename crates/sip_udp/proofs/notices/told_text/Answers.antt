@@ -1,6 +1,7 @@
 -- `told_text` has the header lines and the line of one output.
 use Rattle.std.proofs.Common.{◌++◌, ap, ◌∙◌}
-use Rattle.sip_udp.specs.Telling.{told_line}
+use Rattle.std.specs.List.{flat_map}
+use Rattle.sip_udp.specs.Telling.{spelled_header, told_line}
 use Rattle.sip_udp.proofs.notices.told_text.Goals as goal
 
 pub returns : goal.returns
@@ -9,5 +10,6 @@ returns c =
     record {
       headers = c.in_ok-headers.headers;
       of_datagram = c.in_ok-headers.ensures;
-      spelled = c.in_ok-add_line.ensures ∙ ap (λ front. front ++ line) c.in_ok-text.ensures;
+      spelled = c.in_ok-add_line.ensures ∙ ap (λ front. front ++ line)
+          (c.in_ok-text.ensures ∙ ap (flat_map spelled_header) c.as_slice.ensures);
     }
