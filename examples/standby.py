@@ -258,6 +258,7 @@ async def act(own: Address, local: Address, life: Life, stream: Stream, end: Sig
     while not end.came and not endpoint.is_closed:
         stream.renew_lease()
         await _waited(is_over)
+    end.wake = lambda: None
     if not endpoint.is_closed:
         print(f"ends {len(calls.up)} calls", flush=True)
         calls.hang_up()
