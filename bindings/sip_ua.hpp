@@ -355,8 +355,8 @@ public:
         return Datagram{came.from, bytes};
     }
 
-    /// Whether a send of the last round would go to another IP address than the datagram that caused
-    /// it came from: leave it out (sip_ua_is_reflected).
+    /// Whether a send of the last round would go to another IP address than the datagram that
+    /// caused it came from: leave it out (sip_ua_is_reflected).
     bool is_reflected(const TypedOutput &output) {
         return sip_ua_is_reflected(&agent, &output.numbers,
                                    reinterpret_cast<const std::uint8_t *>(output.body.data()));

@@ -92,8 +92,8 @@ func New(local netip.AddrPort, seed [32]byte, first uint64) (*Agent, error) {
 	return agent, done(C.sip_ua_raw_new(&agent.agent, &start, 1))
 }
 
-// Datagram adds a datagram that was received from an address. One from an IPv6 address is refused by
-// ErrAddress: pass over it, since a socket of both kinds gives such.
+// Datagram adds a datagram that was received from an address. One from an IPv6 address is refused
+// by ErrAddress: pass over it, since a socket of both kinds gives such.
 func (a *Agent) Datagram(from netip.AddrPort, data []byte) error {
 	source, err := address(from)
 	if err != nil {
@@ -154,10 +154,10 @@ func (a *Agent) Run(moment uint64) ([]Output, error) {
 	}
 }
 
-// IsReflected says whether an output of the last round is a send that would go to another IP address
-// than the datagram that caused it came from: a response that is sent again since its request came
-// again, from elsewhere. Leave it out. Otherwise whoever forged the source of a large request has
-// each small repeat send a large response to a victim.
+// IsReflected says whether an output of the last round is a send that would go to another IP
+// address than the datagram that caused it came from: a response that is sent again since its
+// request came again, from elsewhere. Leave it out. Otherwise whoever forged the source of a large
+// request has each small repeat send a large response to a victim.
 func (a *Agent) IsReflected(output Output) bool {
 	if output.Place == 0 || !output.To.IsValid() || !bytes.HasPrefix(output.Text, []byte("SIP/2.0 ")) {
 		return false

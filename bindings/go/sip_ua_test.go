@@ -76,7 +76,8 @@ func TestAnOptionsIsAnswered(t *testing.T) {
 		t.Fatal(due, is, err)
 	}
 	// A repeat has the response sent again: from another address, it goes to whoever asked first.
-	for source, isReflected := range map[string]bool{"192.0.2.9:5061": false, "192.0.2.66:5060": true} {
+	sources := map[string]bool{"192.0.2.9:5061": false, "192.0.2.66:5060": true}
+	for source, isReflected := range sources {
 		if err := agent.Datagram(netip.MustParseAddrPort(source), []byte(request)); err != nil {
 			t.Fatal(err)
 		}
