@@ -1,9 +1,11 @@
-"""The toolchain's own `rt`, as a module: `bench/gate` and `bindings/library` use its functions."""
+"""The toolchain's own `rt`, as a module, and crates that are proved over what `rt ci` left:
+`bench/gate`, `bench/program` and `bindings/library` use it."""
 
 import importlib.machinery
 import importlib.util
 import os
 import shutil
+import sys
 
 
 def load():
@@ -13,3 +15,41 @@ def load():
     module = importlib.util.module_from_spec(importlib.util.spec_from_loader("rt", loader))
     loader.exec_module(module)
     return module, kit
+
+
+def newest(folder):
+    """The time of the newest change of a crate's own files."""
+    paths = [f"{at}/{name}" for part in ("src", "specs", "proofs")
+             for at, folders, files in os.walk(f"{folder}/{part}") for name in [".", *files]]
+    return max([os.stat(path).st_mtime for path in paths], default=0)
+
+
+def stands(crate):
+    """Whether the gate made a library of the crate's files as they are. The folder tells when it
+    did: the files in it may be older, if an earlier run proved the same."""
+    made = f"{crate.folder}/out/rlib/{crate.name}.rlib"
+    is_whole = os.path.isfile(f"{made}/format")
+    return is_whole and os.stat(made).st_mtime > newest(crate.folder)
+
+
+def build_over_gate(top, name, out):
+    """Proves and compiles a crate of the repository at `top` over what the gate left there, as the
+    gate proves it. Says whether the libraries stand and it is proved."""
+    module, folder = load()
+    os.chdir(top)
+    module.Crate.cuts_libraries = True
+    module.rtlib.guarded()
+    module.Crate.allowed = module.handles_of(top)
+    crate = next(it for it in module.crates_of(top) if it.name == name)
+    if not all(stands(it) for it in crate.below()):
+        return False
+    print(f"{name}: over the libraries that rt ci proved here", file=sys.stderr)
+    crate.out = sys.stderr
+    os.makedirs(os.path.dirname(f"{crate.folder}/{out}"), exist_ok=True)
+    words = crate.words(["--jobs", str(min(4, module.processors()))], keeps=False)
+    made = f"{out}.o" if crate.is_program else out
+    compiled = ["--toolchain", f"{folder}/toolchain", "--backend", "llvm", "-o", made]
+    status = crate.prove(["build", *words, *compiled])
+    if not status and crate.is_program:
+        status = crate.link(made, out)
+    return status == 0

@@ -1,4 +1,4 @@
-/* What `test_core transactions HELD MORE` does, through the library: requests come one a round,
+/* What `test_code transactions HELD MORE` does, through the library: requests come one a round,
  * each is answered, and so many are held as soon as the first ends; then as many more; and all end.
  * bindings/run counts its instructions. `transactions HELD MORE` */
 #include "sip_ua.h"

@@ -17,7 +17,7 @@ from talks import lines_after, replayed
 LIMITED = ["sh", "-c", "trap '' XFSZ; exec \"$@\"", "sh"]
 TOO_LARGE = "File too large (os error 27)"
 MISSING = "No such file or directory (os error 2)"
-# The journal that test_core makes shorter, too: nine calls that are over and three that are up.
+# The tests in code make it shorter, too: nine calls are over, and three are up.
 STORED = FOLDERS[1] / "compaction/journal"
 
 

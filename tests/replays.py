@@ -1,6 +1,7 @@
 """Replays at their limits, and with inputs and outputs that fail."""
 
 import os
+from pathlib import Path
 
 from process import ran, redirected
 from register import expect, test
@@ -12,6 +13,11 @@ MOST_EVENTS = 65_536
 MOST_BYTES = 1 << 26
 # The commands that read a file and write to standard output.
 FILE_COMMANDS = [["replay"], ["replay", "--streamed"], ["ladder"]]
+FORTY_CALLS = Path(__file__).resolve().parent / "code/data/keys/forty-keys.events"
+SHARDS, MOST_SHARDS = [1, 2, 7, 64, 256], 256
+WORKERS, MOST_WORKERS = range(1, 9), 64
+# How long a transaction is held after its final response, in ms: 64*T1.
+LIFE = 32_000
 
 
 @test
@@ -61,3 +67,54 @@ def an_input_that_cannot_be_read():
             ended = ran(*words, script=redirected(redirection))
             told = f"ua: input failed\nua: standard input: {error}\n"
             expect(f"{words} {redirection}", (4, "", told), ended)
+
+
+def cut_into(shards, workers, cut="spread"):
+    return ["replay", "--shards", str(shards), "--workers", str(workers), "--cut", cut]
+
+
+@test
+def the_same_in_each_number_of_shards():
+    """Forty transactions, with each number of workers and by both cuts; and often with as many
+    threads as may get into each other's way."""
+    text = FORTY_CALLS.read_bytes().decode("latin-1")
+    outputs = FORTY_CALLS.with_suffix(".outputs").read_bytes().decode("latin-1")
+    ways = [cut_into(shards, workers, cut)
+            for shards in SHARDS for workers in WORKERS for cut in ["spread", "first"]]
+    for words in ways + [cut_into(64, 8)] * 200:
+        expect(words, (0, outputs, ""), ran(*words, text=text))
+
+
+def options(number):
+    """The datagram of a request with a branch and a call of its own."""
+    return ("datagram 127.0.0.1:5070 OPTIONS sip:127.0.0.1 SIP/2.0\\r\\n"
+            f"Via: SIP/2.0/UDP 127.0.0.1:5070;branch=z9hG4bKr{number}\\r\\n"
+            "From: <sip:a@127.0.0.1>;tag=f1\\r\\nTo: <sip:127.0.0.1>\\r\\n"
+            f"Call-ID: c{number}\\r\\nCSeq: 7 OPTIONS\\r\\n\\r\\n\n")
+
+
+@test
+def thousands_of_transactions():
+    """All are told and answered; while they are held, they answer again; then they are gone, and
+    the same requests are told again."""
+    count = 5_000
+    requests = "".join(map(options, range(count)))
+    answers = "".join(f"respond c{number} 0.{number + 1} 200 plain - OK\n"
+                      for number in range(count))
+    text = (f"{HEAD}round 0\n{requests}round 0\n{answers}"
+            f"round {LIFE - 1}\n{requests}round {LIFE}\n{requests}")
+    for words in [cut_into(1, 1), cut_into(MOST_SHARDS, MOST_WORKERS)]:
+        ended = ran(*words, text=text)
+        rounds = ended.output.split("\nround ")[1:]
+        told = [(round.count("\nnotice "), round.count("\nsend ")) for round in rounds]
+        expect(words, (0, [(count, 0), (0, count), (0, count), (count, 0)]),
+               (ended.status, told))
+
+
+@test
+def a_round_of_repeats():
+    """The same requests come again and again in a round with the most events. Each is told once."""
+    count = 512
+    text = HEAD + "round 0\n" + "".join(map(options, range(count))) * (MOST_EVENTS // count)
+    ended = ran("replay", text=text)
+    expect("notices", (0, count), (ended.status, ended.output.count("\nnotice ")))

@@ -8,8 +8,8 @@ from process import ran
 from register import TESTS, Wrong
 
 HERE = Path(__file__).resolve().parent
-# The second one has the files that the program test_core reads, too.
-FOLDERS = [HERE / "cases", HERE.parent / "crates/test_core/data"]
+# The second one has the files that the tests in code read, too.
+FOLDERS = [HERE / "cases", HERE / "code/data"]
 
 
 def register_cases():

@@ -427,9 +427,9 @@ def told_of(text, words):
 
 
 def stored_events():
-    """The event files of all cases: those of the tests, and those that test_core runs, too."""
+    """The event files of all cases, and those that the tests in code run, too."""
     top = Path(__file__).parents[2]
-    folders = [top / "tests/cases", top / "crates/test_core/data"]
+    folders = [top / "tests/cases", top / "tests/code/data"]
     return sorted(path for folder in folders for path in folder.glob("*/*.events"))
 
 

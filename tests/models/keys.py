@@ -1,7 +1,8 @@
-"""Writes the script of forty transactions, which the program test_core runs over and over.
+"""Writes the script of forty transactions, which the tests in code run over and over.
 
-Run as `python3 tests/models/keys.py`. It writes `keys/forty-keys.events` in the data of test_core
-and, as the model of `agent.py` works it out, `keys/forty-keys.outputs`; the same files each time.
+Run as `python3 tests/models/keys.py`. It writes `keys/forty-keys.events` in the data of the tests
+in code and, as the model of `agent.py` works it out, `keys/forty-keys.outputs`; the same files each
+time.
 
 Of the forty, eight each are an OPTIONS, an INVITE and a MESSAGE that come, and an INVITE and an
 OPTIONS that go out; what becomes of each goes by its number. Repeats fall due, clients give up,
@@ -161,7 +162,7 @@ def main():
             invites(script, key)
         else:
             asks(script, key)
-    data = Path(__file__).parents[2] / "crates/test_core/data"
+    data = Path(__file__).parents[1] / "code/data"
     events = data / "keys/forty-keys.events"
     events.parent.mkdir(exist_ok=True)
     events.write_text(script.text())
