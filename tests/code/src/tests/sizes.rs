@@ -1,15 +1,13 @@
-//! Large numbers: of what one shard holds, of shards, of workers, and of events in a round.
+//! Large numbers: of what one shard holds, of shards, and of workers.
 
 use crate::faults::of_events;
-use crate::load::{CONFIG, Load, MOST_SHARDS, MOST_WORKERS};
+use crate::load::{Load, MOST_SHARDS, MOST_WORKERS};
 use crate::loads::LIFE;
-use crate::options::options_of;
 use crate::stop::{Stop, expect};
 use sip_files::read_events;
-use sip_message::Spread;
-use sip_round::{Agent, Event, OpenGate, Output, Round};
+use sip_round::Round;
 use sip_text::Series;
-use std::alloc::{AllocError, Global};
+use std::alloc::Global;
 
 /// How many transactions, and as many calls, are held in one shard.
 const HELD: u64 = 500;
@@ -21,11 +19,6 @@ const REQUESTS: u64 = 1_000;
 const SHORT_ROUNDS: u64 = 2_000;
 
 const ROUND: u64 = 100;
-
-/// How many events a round may have, and how many of them are different requests.
-const MOST_EVENTS: u64 = 65_536;
-
-const REQUESTS_AT_MOST: u64 = 512;
 
 #[test]
 fn much_is_moved(rt: HostRuntime) -> Result<(), Stop> {
@@ -85,26 +78,4 @@ fn round_of(alloc: Global, number: u64) -> Result<Series<Round>, Stop> {
     )?;
     let (_, rounds) = read_events(alloc, text.as_bytes()).map_err(of_events)?;
     Ok(rounds)
-}
-
-// The same requests come again and again in one round. The user is told of each once.
-#[test]
-fn a_round_of_the_most_events(rt: HostRuntime) -> Result<(), Stop> {
-    let (rt, alloc) = (&rt, rt.alloc());
-    let mut agent = Agent::new(alloc, CONFIG, 1, Spread)?;
-    let events = many_events(alloc)?;
-    let outputs = agent.run_round(rt, &Round { moment: 0, events }, 1, &OpenGate)?;
-    let told = outputs
-        .iter()
-        .filter(|output| matches!(output, Output::Notice(_)))
-        .count();
-    expect("requests told", REQUESTS_AT_MOST, told as u64)
-}
-
-fn many_events(alloc: Global) -> Result<Series<Event>, AllocError> {
-    let mut events = Series::new(alloc);
-    for number in 0..MOST_EVENTS {
-        events.push(options_of(alloc, number % REQUESTS_AT_MOST)?)?;
-    }
-    Ok(events)
 }
