@@ -20,8 +20,7 @@ const MOST_TURNS: u64 = 1_000_000_000;
 fn two_lines(
     alloc: Global,
     capacity: usize,
-) -> Result<(Desk<Event>, Poster<Event>, Poster<Event>), NoMemory>
-{
+) -> Result<(Desk<Event>, Poster<Event>, Poster<Event>), NoMemory> {
     let (desk, mut posters) = open(alloc, 2, capacity)?;
     let second = posters.pop().ok_or(NoMemory)?;
     let first = posters.pop().ok_or(NoMemory)?;
@@ -34,8 +33,7 @@ fn collects(
     desk: &mut Desk<Event>,
     max: usize,
     events: &[Event],
-) -> Result<(), NoMemory>
-{
+) -> Result<(), NoMemory> {
     let collected = desk.collect(max)?;
     assert!(rt; collected.as_slice() == events);
     Ok(())
@@ -48,8 +46,7 @@ fn refuses(
     line: usize,
     ended: Ended<Event>,
     fault: SettleFault,
-) -> Ended<Event>
-{
+) -> Ended<Event> {
     let Err(refused) = desk.settle(line, ended) else {
         panic!(rt; "line {line} was settled");
     };
@@ -59,8 +56,7 @@ fn refuses(
 }
 
 // Checks that the line is settled.
-fn settles(rt: &impl Abort, desk: &mut Desk<Event>, line: usize, ended: Ended<Event>)
-{
+fn settles(rt: &impl Abort, desk: &mut Desk<Event>, line: usize, ended: Ended<Event>) {
     assert!(rt; desk.settle(line, ended).is_ok());
 }
 
@@ -123,8 +119,7 @@ fn a_poster_whose_desk_is_gone(rt: HostRuntime) -> Result<(), Fail> {
 }
 
 // Posts the numbers from 1 on, each again if the line gives it back, and ends the line.
-fn post_numbers(line: usize, mut poster: Poster<Event>) -> Result<Ended<Event>, Unfinished>
-{
+fn post_numbers(line: usize, mut poster: Poster<Event>) -> Result<Ended<Event>, Unfinished> {
     let mut next = 1;
     for _ in 0..MOST_TURNS {
         if next > EVENTS {
@@ -145,8 +140,7 @@ fn post_numbers(line: usize, mut poster: Poster<Event>) -> Result<Ended<Event>, 
 fn collect_numbers(
     alloc: Global,
     mut desk: Desk<Event>,
-) -> (Desk<Event>, Result<Vec<Event>, NoMemory>)
-{
+) -> (Desk<Event>, Result<Vec<Event>, NoMemory>) {
     let mut all = Vec::new(alloc);
     for _ in 0..MOST_TURNS {
         if all.len() as u64 >= 2 * EVENTS {
@@ -192,8 +186,7 @@ fn run_threads<R: Threads + Sync>(
     desk: Desk<Event>,
     first: Poster<Event>,
     second: Poster<Event>,
-) -> Ran
-{
+) -> Ran {
     let (ends, (desk, collected)) = thread::join(
         rt,
         move || {

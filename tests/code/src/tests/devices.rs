@@ -1,10 +1,10 @@
 //! Readers and writers that fail at one of their calls, at each one in turn.
 
-use crate::tests::failing::{Failing, MOST_TURNS};
 use crate::refusals::{SHARDS, WORKERS};
 use crate::script::{LONG, Script};
-use crate::tests::sends::failed_sends;
 use crate::stop::{Stop, check, expect};
+use crate::tests::failing::{Failing, MOST_TURNS};
+use crate::tests::sends::failed_sends;
 use sip_files::{FileKind, ReplayFault, replay};
 use sip_message::Spread;
 use sip_round::OpenGate;
@@ -16,8 +16,10 @@ const SHORT: &str = "requests/told-and-answered";
 
 /// The scripts, how many bytes a device takes or gives at once, and how many reads, writes and sends
 /// there are.
-const SCRIPTS: [(&str, usize, [u64; 3]); 2] =
-    [(LONG, 4_096, [9, 12, 142]), (SHORT, 1, [282, 356, 1])];
+const SCRIPTS: [(&str, usize, [u64; 3]); 2] = [
+    (LONG, 4_096, [9, 12, 142]),
+    (SHORT, 1, [282, 356, 1]),
+];
 
 /// The number of a call that is never made.
 const NEVER: u64 = u64::MAX;
@@ -30,7 +32,10 @@ fn reads_writes_and_sends_fail_in_turn(rt: HostRuntime) -> Result<(), Stop> {
         let reads = failed_calls(&rt, rt.alloc(), &script, most, true)?;
         let writes = failed_calls(&rt, rt.alloc(), &script, most, false)?;
         let sends = failed_sends(&rt, rt.alloc(), &script)?;
-        assert!(rt; [reads, writes, sends] == wanted, "{reads}, {writes}, {sends}");
+        assert!(rt;
+            [reads, writes, sends] == wanted,
+            "{reads}, {writes}, {sends}"
+        );
     }
     Ok(())
 }

@@ -101,8 +101,7 @@ impl<W: Write> CountedWrite for Counting<W> {
 }
 
 // None if the count gets too high.
-fn one_more(count: Option<u64>) -> Option<u64>
-{
+fn one_more(count: Option<u64>) -> Option<u64> {
     match count {
         Some(count) => count.checked_add(1),
         None => None,

@@ -1,9 +1,9 @@
 //! A script whose sends fail, each one in turn.
 
-use crate::tests::failing::MOST_TURNS;
 use crate::refusals::{SHARDS, WORKERS};
 use crate::script::Script;
 use crate::stop::{Stop, expect};
+use crate::tests::failing::MOST_TURNS;
 use sip_message::{Addr, Spread};
 use sip_round::{Agent, Event, OpenGate, Round};
 use sip_text::Series;

@@ -63,8 +63,12 @@ impl Gate for Meeting {
 }
 
 // How many pieces of a round without events waited for the other in vain, in two shards.
-fn alone<T: Threads + Sync>(rt: &T, alloc: Global, workers: usize, looks: u32) -> Result<u64, Fail>
-{
+fn alone<T: Threads + Sync>(
+    rt: &T,
+    alloc: Global,
+    workers: usize,
+    looks: u32,
+) -> Result<u64, Fail> {
     let gate = Meeting {
         looks,
         begun: AtomicU64::new(0),

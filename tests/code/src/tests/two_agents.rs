@@ -57,8 +57,7 @@ struct Network {
 }
 
 impl Network {
-    fn below(&mut self, limit: u32) -> u32
-    {
+    fn below(&mut self, limit: u32) -> u32 {
         let product = self.random.wrapping_mul(1_664_525);
         self.random = product.wrapping_add(1_013_904_223);
         (self.random >> 16) % limit

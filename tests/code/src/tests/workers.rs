@@ -123,8 +123,7 @@ fn waiting<'a>(
 }
 
 // Pieces 0 to `count` - 1, with the squares of their numbers as jobs.
-fn squares(alloc: Global, count: u32) -> Result<Vec<Piece<Square>>, NoMemory>
-{
+fn squares(alloc: Global, count: u32) -> Result<Vec<Piece<Square>>, NoMemory> {
     let mut pieces = Vec::new(alloc);
     for k in 0..count {
         pieces.push(Piece {
