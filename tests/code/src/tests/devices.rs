@@ -14,8 +14,8 @@ use std::thread::Threads;
 /// The name of a script with one transaction.
 const SHORT: &str = "requests/told-and-answered";
 
-/// The scripts, how many bytes a device takes or gives at once, and how many reads, writes and sends
-/// there are.
+/// The scripts, how many bytes a device takes or gives at once, and how many reads, writes and
+/// sends there are.
 const SCRIPTS: [(&str, usize, [u64; 3]); 2] = [
     (LONG, 4_096, [9, 12, 142]),
     (SHORT, 1, [282, 356, 1]),
