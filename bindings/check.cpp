@@ -40,15 +40,17 @@ static void typed(sip::Agent &agent) {
     agent.abandon("c4", id);
     agent.abandon("c4", "a", "b");
     const auto told = agent.run(11);
+    const std::string from = ";tag=" + agent.opening_tag(id) + "\r\n";
     std::size_t refused = 0, sent = 0;
     for (const auto &output : told) {
         refused += output.numbers.kind == SIP_UA_NOTICE_REFUSED && output.call_id == "c4"
             && output.numbers.refusal == SIP_UA_REFUSAL_NO_SUCH_CALL;
         sent += output.numbers.kind == SIP_UA_SEND
-            && output.body.find("\r\nSubject: one\r\n") != std::string::npos;
+            && output.body.find("\r\nSubject: one\r\n") != std::string::npos
+            && output.body.find(from) != std::string::npos;
     }
     expect(refused == 7, "commands of no call are refused");
-    expect(sent == 1, "the INVITE has its header");
+    expect(sent == 1, "the INVITE has its header and its tag");
     expect(agent.stats().calls >= 2, "two calls are held");
     try {
         agent.request({"c4", "a b", "", "BYE"});

@@ -331,6 +331,17 @@ public:
         return due.is_due ? std::optional(due.moment) : std::nullopt;
     }
 
+    /// The local tag of the dialogs that an INVITE with this id opens, or the From tag of a request
+    /// with this id outside of dialogs. Dialogs are held by it, whatever a response has in its place.
+    std::string opening_tag(sip_ua_id id) {
+        std::size_t len = 0;
+        return text_of(
+            [&](std::uint8_t *room, std::size_t size) {
+                return sip_ua_opening_tag(&agent, id, &len, room, size);
+            },
+            [&] { return len; });
+    }
+
     /// Whether a datagram would begin a transaction if it came in the next round: it is a request
     /// other than ACK, and no transaction with its key is held. An agent that holds too much can be
     /// spared such datagrams.

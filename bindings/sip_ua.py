@@ -704,6 +704,7 @@ _FUNCTIONS = {
     "run": (ctypes.c_uint64,),
     "next_due": (_at(_Due),),
     "last_id": (_at(_Id),),
+    "opening_tag": _event + (_at(_TextLength),) + _room,
     "would_begin": _text + (_at(ctypes.c_bool),),
     "datagram_at": (_place, _at(_Arrival)) + _room,
     "request_traits": (_place, _at(_RequestTraits)),
@@ -911,6 +912,13 @@ class Agent:
         told = _Id()
         self._call("last_id", told)
         return told.told() if told.is_given else None
+
+    def opening_tag(self, id: Id) -> str:
+        """The local tag of the dialogs that an INVITE with this id opens, or the From tag of a
+        request with this id outside of dialogs. Dialogs are held by it. The local tag of a notice
+        is what the peer's response has in its place, which a wrong peer changes."""
+        (text,) = self._texts("opening_tag", _TextLength(), *_id(id))
+        return text.decode("ascii")
 
     def failed(self, index: int) -> None:
         """Says that the Send with this index, of the last round, couldn't be sent: the socket

@@ -536,8 +536,9 @@ class OutgoingCall(Call):
             self._fail(Ended(self._agent.outcome(notice)))
 
     def _take_response(self, notice: ResponseNotice, message: Message) -> None:
-        """A response to the INVITE came."""
-        tags = (notice.local_tag, notice.remote_tag)
+        """A response to the INVITE came. Its dialog has our own From tag, also where a wrong peer
+        changed that."""
+        tags = (self._agent.opening_tag(notice.id), notice.remote_tag)
         if notice.status == 100:
             return
         if notice.status < 300:
@@ -847,6 +848,10 @@ class UserAgent:
         """Gives a command to the agent. Its id names what it asks for."""
         return self.endpoint.ask(command)
 
+    def opening_tag(self, event: Id) -> str:
+        """Our tag in the dialogs that this INVITE opens."""
+        return self.endpoint.agent.opening_tag(event)
+
     def handle(self, event: Id, handler: _Handler) -> None:
         """For these modules: has notices about a request go to this handler, until `forget`."""
         self._handlers[event] = handler
@@ -986,7 +991,8 @@ class UserAgent:
                 self.forget(event)
             elif notice.status >= 200:
                 self._forget_later(event)
-                self._leave(HeldDialog(call_id, notice.local_tag, notice.remote_tag, None))
+                tag = self.opening_tag(event)
+                self._leave(HeldDialog(call_id, tag, notice.remote_tag, None))
 
         def give_up() -> None:
             if event in self._handlers and not self.endpoint.is_closed:

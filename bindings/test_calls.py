@@ -661,6 +661,24 @@ class ScriptedTest(unittest.IsolatedAsyncioTestCase):
         await soon(until(lambda: peer.methods.count("BYE") == 2))
         self.assertIn("tag=one", header(peer.requests[-1], "To"))
 
+    async def test_a_callee_changes_the_from_tag(self) -> None:
+        """Its BYE has the tag that was sent."""
+
+        def answer(message: str) -> List[str]:
+            if message.startswith("INVITE"):
+                tag = header(message, "From").partition(";tag=")[2]
+                changed = message.replace(tag, "another")
+                return [response(changed, "200 OK", "t", peer.contact())]
+            return [response(message, "200 OK")] if message.startswith("BYE") else []
+
+        peer, uri = await self.peer(answer)
+        call = await self.agent.call(uri, OFFER)
+        await soon(call.answered())
+        call.hang_up()
+        await soon(call.ended())
+        await soon(until(lambda: peer.methods == ["INVITE", "ACK", "BYE"]))
+        self.assertEqual(header(peer.requests[0], "From"), header(peer.requests[2], "From"))
+
     async def test_an_answer_crosses_the_cancel(self) -> None:
         def answer(message: str) -> List[str]:
             if message.startswith("INVITE"):

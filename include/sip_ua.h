@@ -573,6 +573,8 @@ uint32_t sip_ua_raw_skip(sip_ua *agent);
 uint32_t sip_ua_raw_stats(sip_ua *agent, sip_ua_counts *counts);
 uint32_t sip_ua_raw_next_due(sip_ua *agent, sip_ua_due *due);
 uint32_t sip_ua_raw_last_id(sip_ua *agent, sip_ua_id *id);
+uint32_t sip_ua_raw_opening_tag(sip_ua *agent, uint64_t round, uint32_t place, size_t *len,
+                                uint8_t *buffer, size_t room);
 uint32_t sip_ua_raw_would_begin(sip_ua *agent, const uint8_t *bytes, size_t len, bool *begins);
 uint32_t sip_ua_raw_datagram_at(sip_ua *agent, uint32_t place, sip_ua_arrival *arrival,
                                 uint8_t *buffer, size_t room);
@@ -984,6 +986,20 @@ static inline uint32_t sip_ua_last_id(sip_ua *agent, sip_ua_id *id)
     if (agent == NULL || id == NULL)
         return SIP_UA_NULL;
     return sip_ua_raw_last_id(agent, id);
+}
+
+/* The local tag of the dialogs that an INVITE with this id opens, or the From tag of a request with
+ * this id outside of dialogs: 41 characters, written to the buffer. Dialogs are held by it. The
+ * local tag of a notice is what the peer's response has in its place, which a wrong peer changes.
+ * Faults: SIP_UA_NO_ROOM, if `len` is more than `room`; SIP_UA_NO_MEMORY. */
+static inline uint32_t sip_ua_opening_tag(sip_ua *agent, sip_ua_id id, size_t *len,
+                                          uint8_t *buffer, size_t room)
+{
+    uint8_t otherwise = 0;
+    if (agent == NULL || len == NULL || (buffer == NULL && room != 0))
+        return SIP_UA_NULL;
+    return sip_ua_raw_opening_tag(agent, id.round, id.place, len,
+                                  sip_ua_raw_room(buffer, &otherwise), room);
 }
 
 /* Whether a datagram would begin a transaction if it came in the next round: it is a request other

@@ -82,15 +82,16 @@ class Peer:
             f"{headers}Content-Length: {len(body)}\r\n\r\n{body}")
         self.send(self.asked)
 
-    def answer(self, request, status, tag):
-        """Answers a request with this status line, and with this tag in To if it has none."""
+    def answer(self, request, status, tag, *headers):
+        """Answers a request with this status line, with this tag in To if it has none, and with
+        these headers."""
         lines = [f"SIP/2.0 {status}"]
         for line in request.split("\r\n"):
             if line.startswith("To: ") and ";tag=" not in line:
                 line += f";tag={tag}"
             if line.startswith(("Via: ", "From: ", "To: ", "Call-ID: ", "CSeq: ")):
                 lines.append(line)
-        self.send("\r\n".join([*lines, "", ""]))
+        self.send("\r\n".join([*lines, *headers, "", ""]))
 
 
 def header(text, name):

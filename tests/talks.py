@@ -5,7 +5,7 @@ import subprocess
 import tempfile
 from pathlib import Path
 
-from loopback import ANY, address_of, bound
+from loopback import ANY, Peer, address_of, bound, tag_of
 from process import Running, ran
 from register import Wrong, expect, expect_in_order, test
 
@@ -98,6 +98,26 @@ def the_end_of_the_input_ends_a_caller():
             expect("status", 0, told.status)
             expect_in_order(f"the caller, {words}", parts, told.output)
             listener.output.next("notice ua-call ended ")
+
+
+@test
+def a_callee_that_changes_the_callers_tag():
+    """Its 200 has another tag in From. The BYE has the tag that was sent, and ends the call."""
+    with Peer(ANY) as callee:
+        with Running(*calling(callee.address)) as caller:
+            callee.other = caller.ready()
+            invite = callee.receive("INVITE ")
+            tag = tag_of(invite, "From")
+            callee.answer(invite.replace(tag, "another"), "200 OK", "b",
+                          f"Contact: <sip:b@{callee.address}>")
+            bye = callee.receive("BYE ", f";tag={tag}")
+            callee.answer(bye, "200 OK", "b")
+            caller.output.next("notice ua-call ended ")
+            caller.end_input()
+            told = caller.ended()
+    expect("status", 0, told.status)
+    if "refused" in told.output:
+        raise Wrong(f"no refusal\ncame:   {told.output}")
 
 
 @test

@@ -191,6 +191,16 @@ func (a *Agent) NextDue() (uint64, bool, error) {
 	return uint64(due.moment), bool(due.is_due), err
 }
 
+// OpeningTag is the local tag of the dialogs that an INVITE with this id opens, or the From tag of a
+// request with this id outside of dialogs. Dialogs are held by it. The local tag of a notice is what
+// the peer's response has in its place, which a wrong peer changes.
+func (a *Agent) OpeningTag(id ID) (string, error) {
+	return a.text(func(told *C.size_t, at *C.uint8_t, size C.size_t) C.uint32_t {
+		return C.sip_ua_raw_opening_tag(&a.agent, C.uint64_t(id.Round), C.uint32_t(id.Place),
+			told, at, size)
+	})
+}
+
 // WouldBegin says whether a datagram would begin a transaction if it came in the next round: it is a
 // request other than ACK, and no transaction with its key is held. An agent that holds too much can
 // be spared such datagrams.
@@ -257,8 +267,18 @@ func (a *Agent) HeaderLines(place uint32) ([]string, error) {
 	})
 }
 
-// The lines that a call writes, with their length. The buffer grows for them.
+// The lines that a call writes.
 func (a *Agent) lines(call func(*C.size_t, *C.uint8_t, C.size_t) C.uint32_t) ([]string, error) {
+	text, err := a.text(call)
+	if err != nil {
+		return nil, err
+	}
+	lines := strings.Split(text, "\n")
+	return lines[:len(lines)-1], nil
+}
+
+// The text that a call writes, with its length. The buffer grows for it.
+func (a *Agent) text(call func(*C.size_t, *C.uint8_t, C.size_t) C.uint32_t) (string, error) {
 	for {
 		var told C.size_t
 		at, size := bytesOf(a.buffer)
@@ -268,29 +288,19 @@ func (a *Agent) lines(call func(*C.size_t, *C.uint8_t, C.size_t) C.uint32_t) ([]
 			continue
 		}
 		if status != C.SIP_UA_OK {
-			return nil, Error(status)
+			return "", Error(status)
 		}
-		lines := strings.Split(string(a.buffer[:told]), "\n")
-		return lines[:len(lines)-1], nil
+		return string(a.buffer[:told]), nil
 	}
 }
 
 // RoundText are the lines of the last round, as a session file has them. Appended to a journal before
 // the outputs of the round go out, they let an agent go on in another process: see Resume.
 func (a *Agent) RoundText() ([]byte, error) {
-	for {
-		var told C.size_t
-		at, size := bytesOf(a.buffer)
-		status := C.sip_ua_raw_round_text(&a.agent, &told, at, size)
-		if status == C.SIP_UA_NO_ROOM {
-			a.buffer = make([]byte, told)
-			continue
-		}
-		if status != C.SIP_UA_OK {
-			return nil, Error(status)
-		}
-		return append([]byte(nil), a.buffer[:told]...), nil
-	}
+	text, err := a.text(func(told *C.size_t, at *C.uint8_t, size C.size_t) C.uint32_t {
+		return C.sip_ua_raw_round_text(&a.agent, told, at, size)
+	})
+	return []byte(text), err
 }
 
 // Resume runs the first round of a text again, as RoundText gave it, without outputs, and returns how

@@ -75,6 +75,18 @@ func TestAnOptionsIsAnswered(t *testing.T) {
 	if due, is, err := agent.NextDue(); err != nil || !is || due != 32010 {
 		t.Fatal(due, is, err)
 	}
+	id, err = agent.Command("invite c2 192.0.2.9:5060 sip:b@192.0.2.9 sip:a@192.0.2.1 sip:b@192.0.2.9 none -")
+	if err != nil {
+		t.Fatal(err)
+	}
+	tag, err := agent.OpeningTag(id)
+	if err != nil || len(tag) != 41 {
+		t.Fatal(tag, err)
+	}
+	outputs, err = agent.Run(15)
+	if err != nil || len(outputs) != 1 || !strings.Contains(string(outputs[0].Text), ";tag="+tag+"\r\n") {
+		t.Fatal(outputs, err)
+	}
 	// A repeat has the response sent again: from another address, it goes to whoever asked first.
 	sources := map[string]bool{"192.0.2.9:5061": false, "192.0.2.66:5060": true}
 	for source, isReflected := range sources {

@@ -33,7 +33,7 @@ static uint8_t texts[65536];
 static sip_ua agent = SIP_UA_NONE;
 static int udp;
 static uint64_t moment;
-/* The INVITE, the tags of its dialog once it is answered, its BYE; when to hang up or to cancel. */
+/* The INVITE, its own tag, the peer's once it is answered, its BYE; when to hang up or to cancel. */
 static sip_ua_id invite, bye;
 static char local_tag[256], remote_tag[256];
 static bool is_answered, is_over, has_events;
@@ -130,13 +130,14 @@ static void keep(sip_ua_bytes tag, char *room, size_t size)
     room[tag.len] = '\0';
 }
 
-/* Ends the dialog with these tags, and returns the id of its BYE. */
-static sip_ua_id hang_up(sip_ua_bytes local, sip_ua_bytes remote)
+/* Ends the dialog with this remote tag, and returns the id of its BYE. The local tag is our own: the
+ * one of a response is what the peer has in its place. */
+static sip_ua_id hang_up(sip_ua_bytes remote)
 {
     sip_ua_asked told;
     sip_ua_request_fields fields = {
         .call_id = sip_ua_string(CALL_ID),
-        .local_tag = local,
+        .local_tag = sip_ua_string(local_tag),
         .remote_tag = remote,
         .method = sip_ua_string("BYE"),
     };
@@ -149,11 +150,10 @@ static sip_ua_id hang_up(sip_ua_bytes local, sip_ua_bytes remote)
 static void take_answer(const sip_ua_texts *said)
 {
     if (is_answered) {
-        hang_up(said->local_tag, said->remote_tag);
+        hang_up(said->remote_tag);
     } else {
         is_answered = true;
         until = moment + 1000 * seconds;
-        keep(said->local_tag, local_tag, sizeof local_tag);
         keep(said->remote_tag, remote_tag, sizeof remote_tag);
     }
 }
@@ -253,8 +253,11 @@ static void call(const sip_ua_address *peer, const char *uri, const char *own)
         .headers = headers,
         .header_count = sizeof headers / sizeof *headers,
     };
+    size_t len;
     asked(sip_ua_invite(&agent, &fields, &told), &told, "sip_ua_invite");
     invite = told.id;
+    must(sip_ua_opening_tag(&agent, invite, &len, (uint8_t *)local_tag, sizeof local_tag - 1),
+         "sip_ua_opening_tag");
 }
 
 static void cancel(void)
@@ -268,7 +271,7 @@ static void cancel(void)
 static void end_call(void)
 {
     if (is_answered)
-        bye = hang_up(sip_ua_string(local_tag), sip_ua_string(remote_tag));
+        bye = hang_up(sip_ua_string(remote_tag));
     else
         cancel();
     until = UINT64_MAX;

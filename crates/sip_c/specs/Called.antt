@@ -2,6 +2,7 @@
 use Rattle.std.specs.Prelude.{◌≡◌, ◌⊎◌, ◌^◌, ◌+◌, ◌-◌, ℕ, Bool, ◌&&◌, false, true, List, Option, None, Some, IsSomeAnd, Result, Ok, Err, length, nat_le, replicate, if◌then◌else◌}
 use Rattle.std.specs.List.{slice_get}
 use Rattle.std.specs.Option.{option_map}
+use Rattle.sip_clients.specs.Name.{opening_tag}
 use Rattle.sip_message.specs.declared.addr.Addr.{Addr}
 use Rattle.sip_message.specs.declared.id.Id.{Id}
 use Rattle.sip_reader.specs.declared.first_line.FirstLine.{FirstLine}
@@ -225,6 +226,13 @@ TellsNothing number told nothing before after =
 abbrev pub TellsOrNot : {T : Type 0} → ℕ → T → T → List ℕ → List ℕ → Type 0 → Type 0
 TellsOrNot number told nothing before after Tells =
     Tells ⊎ ((number ≡ 10) × (told ≡ nothing) × (after ≡ before))
+
+-- the tag that the agent gives itself where the command with this id begins
+abbrev pub TellsTag : Id → ℕ → ℕ → List ℕ → List ℕ → Host → Type 0
+TellsTag id number told before after host =
+    let tag = opening_tag host.agent.calls.seed id in
+    (number ≡ room_answer told (length before)) × (told ≡ length tag)
+    × (after ≡ put_in tag before)
 
 -- the datagram at a place
 abbrev pub TellsDatagram : ℕ → ℕ → Datagram → List ℕ → List ℕ → Host → Type 0

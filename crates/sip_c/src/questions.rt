@@ -7,13 +7,14 @@ ghost use Rattle.sip_host.specs.declared.holdings.Holdings.{Holdings as AHolding
 ghost use Rattle.sip_c.specs.Status as spec;
 ghost use Rattle.sip_host.specs.Traits.{TellsTraitsAt};
 ghost use Rattle.sip_host.specs.declared.request_traits.RequestTraits.{RequestTraits as TheTraits};
-ghost use Rattle.sip_c.specs.Called.{TellsDatagram, TellsLine, TellsLines, TellsNothing, TellsOrNot, TellsStart, TellsValue, TellsValues, datagram_of, traits_given, header_lengths_of, id_of, length_of, start_line_of, stats_of};
+ghost use Rattle.sip_c.specs.Called.{TellsDatagram, TellsLine, TellsLines, TellsNothing, TellsOrNot, TellsStart, TellsTag, TellsValue, TellsValues, datagram_of, traits_given, header_lengths_of, id_of, length_of, start_line_of, stats_of};
 
 use crate::handle::Handle;
 use crate::status::{NO_AGENT, NO_MEMORY, NO_ROOM, OK, room_answer};
 use crate::values::{
     self, Datagram, EventId, HeaderLengths, RequestTraits, StartLine, Stats, TextLength,
 };
+use sip_message::Id;
 use std::alloc::Global;
 
 /// The id of the event that was given last, if the next round has one.
@@ -31,6 +32,41 @@ pub extern "C" fn sip_ua_raw_last_id(alloc: Global, handle: &mut Handle, id: &mu
     *id = values::id_of(host.last_id());
     handle.put(host);
     OK
+}
+
+/// The tag that the agent gives itself where the command with this id sends an INVITE, or another
+/// request outside of dialogs.
+#[unsafe(no_mangle)]
+pub extern "C" fn sip_ua_raw_opening_tag(
+    alloc: Global,
+    handle: &mut Handle,
+    round: u64,
+    place: u32,
+    len: &mut usize,
+    buffer: &mut [u8],
+) -> u32
+    ensures same { handle.new.owned.host ≡ handle.old.owned.host }
+    ensures none { handle.old.owned.host ≡ None
+        → TellsNothing result len.new 0 buffer.old buffer.new }
+    ensures told { IfSome handle.old.owned.host (λ host.
+        TellsOrNot result len.new 0 buffer.old buffer.new
+        (TellsTag (record { round = round; place = place }) result len.new buffer.old buffer.new
+        host)) }
+{
+    *len = 0;
+    let Some(host) = handle.take(alloc) else {
+        return NO_AGENT;
+    };
+    let room = buffer.len();
+    let answer = host.opening_tag(Id { round, place }, buffer);
+    handle.put(host);
+    match answer {
+        Ok(tag) => {
+            *len = tag;
+            room_answer(tag, room)
+        }
+        Err(_) => NO_MEMORY,
+    }
 }
 
 /// What the agent holds, and what waits in it.

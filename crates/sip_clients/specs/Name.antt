@@ -20,6 +20,11 @@ abbrev pub name_of : List ℕ → Id → ℕ → List ℕ
 name_of seed id index =
     ((hex 16 id.round ++ hex 16 id.place) ++ hex 1 index) ++ hex 8 (word_of_name seed id index)
 
+-- the tag that the agent gives itself where the command with this id sends a request outside of
+-- dialogs: the made name of index 1
+abbrev pub opening_tag : List ℕ → Id → List ℕ
+opening_tag seed id = name_of seed id 1
+
 -- ---- for steps and laws: `run` needs nothing of what follows
 
 -- names of different rounds, places or indexes differ, whatever the seeds

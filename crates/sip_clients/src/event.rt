@@ -5,7 +5,7 @@ ghost use Rattle.seeded_hash.specs.HashSeed.{seed_of};
 ghost use Rattle.sip_clients.specs.Event as spec;
 ghost use Rattle.sip_clients.specs.Name.{name_of};
 
-use crate::name::{made_name, push_name};
+use crate::name::{opening_tag, push_name};
 use seeded_hash::HashSeed;
 use sip_dialog::Branch;
 use sip_message::{Addr, Id, Token};
@@ -14,9 +14,6 @@ use std::alloc::{AllocError, Global};
 
 /// The index of a made branch among the names of its event.
 const BRANCH_NAME: u8 = 0;
-
-/// The index of a made From tag among the names of its event.
-const FROM_TAG_NAME: u8 = 1;
 
 /// An event, its moment in ms, and what its agent makes requests from.
 #[derive(Clone, Copy)]
@@ -57,6 +54,6 @@ impl Event {
     pub(crate) fn from_tag(&self, alloc: Global) -> Result<Token, AllocError>
         ensures { IfOk result (λ tag. tag ≡ spec.from_tag_of self.now) }
     {
-        made_name(alloc, self.seed, self.id, FROM_TAG_NAME)
+        opening_tag(alloc, self.seed, self.id)
     }
 }

@@ -33,5 +33,5 @@ pub use laws::{
     each_client_request_keeps_the_rules, each_notice_is_of_its_call, each_request_has_its_branch,
     names_differ, no_other_step_sends_a_cancel_or_an_ack, quiet_until_due,
 };
-pub use name::made_name;
+pub use name::{made_name, opening_tag};
 pub use rules::{commands_are_by_the_rules, responses_and_ends_are_by_the_rules};

@@ -1,12 +1,28 @@
 //! Made names: the tags and branches that the agent makes.
 
 ghost use Rattle.std.specs.Prelude.{◌≡◌, ◌<◌, ◌≤◌, ◌^◌, ◌++◌, IfOk, OnOk};
+ghost use Rattle.sip_clients.specs.Name as spec;
 ghost use Rattle.sip_clients.specs.Name.{hex, name_of, word_of_name};
 
 use crate::chacha::word_at;
 use sip_message::{Id, Token};
 use sip_text::{Text, hex_digit};
 use std::alloc::{AllocError, Global};
+
+/// The index of a made From tag among the names of its event.
+const FROM_TAG_NAME: u8 = 1;
+
+/// The tag that the agent gives itself where the command with this id sends an INVITE, or another
+/// request outside of dialogs (RFC 3261, section 8.1.1.3): the From tag of the request.
+///
+/// # Errors
+///
+/// Memory ran out.
+pub fn opening_tag(alloc: Global, seed: [u8; 32], id: Id) -> Result<Token, AllocError>
+    ensures { IfOk result (λ tag. tag ≡ spec.opening_tag seed id) }
+{
+    made_name(alloc, seed, id, FROM_TAG_NAME)
+}
 
 /// The name of an index that an event makes. It has 16 hexadecimal digits of the round, 16 of the
 /// place, one of the index, and 8 of a word of the ChaCha20 stream of the round under the seed. So

@@ -3,6 +3,7 @@
 ghost use Rattle.std.specs.Prelude.{◌≡◌, ◌⊎◌, Option, ◌<◌, ◌≤◌, ◌+◌, ◌++◌, ◌∷◌, [], ℕ, List, IfOk, IfSome, Err, None, Ok, OnErr, OnOk, Some, length, false, nat_lt, true, if◌then◌else◌};
 ghost use Rattle.std.specs.List.{slice_get};
 ghost use Rattle.std.specs.Option.{option_copied, option_map};
+ghost use Rattle.sip_clients.specs.Name.{opening_tag};
 ghost use Rattle.sip_timers.specs.Queue.{is_due};
 ghost use Rattle.sip_round.specs.Answers.{StandsFor};
 ghost use Rattle.sip_round.specs.NextDue.{IsDueAfter, IsQuietAfter};
@@ -665,6 +666,24 @@ impl Host {
             Ok(message) => self.agent.would_begin(&message),
             Err(fault) => begins_nothing(fault),
         }
+    }
+
+    /// The length of the tag that the agent gives itself where the command with this id sends an
+    /// INVITE, or another request outside of dialogs (RFC 3261, section 8.1.1.3). The tag goes to the
+    /// beginning of the buffer, if it fits. Dialogs are held by it, whatever tag a peer's response
+    /// has in its place.
+    ///
+    /// # Errors
+    ///
+    /// Memory ran out; then nothing was written.
+    pub fn opening_tag(&self, id: Id, buffer: &mut [u8]) -> Result<usize, AllocError>
+        ensures told { IfOk result (λ told. let tag = opening_tag self.now.agent.calls.seed id in
+            (told ≡ length tag) × (buffer.new ≡ put_in tag buffer.old)) }
+        ensures same { OnErr result (buffer.new ≡ buffer.old) }
+    {
+        let tag = self.agent.opening_tag(id)?;
+        put(tag.as_slice(), buffer);
+        Ok(tag.as_slice().len())
     }
 
     /// The id of the event that was given last, if the next round has one. Notices about a

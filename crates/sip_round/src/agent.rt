@@ -20,7 +20,8 @@ use crate::shards::Shards;
 use crate::waiting::{SetOut, set_out};
 use keyed_machine::laws_of_phases;
 use sip_calls::Calls;
-use sip_message::{Cut, Message, key_of};
+use sip_clients::opening_tag;
+use sip_message::{Cut, Id, Message, Token, key_of};
 use sip_same::SameValue;
 use sip_shards::{parts_of, tell_of_each};
 use sip_transactions::Transactions;
@@ -88,6 +89,7 @@ impl<C: Cut + Drop> Agent<C> {
     ghost use Rattle.sip_round.specs.Steps.Led.{Deals};
     ghost use Rattle.sip_round.specs.Steps.OneMore.{GivesOneMore};
     ghost use Rattle.sip_round.specs.Live.{live_of};
+    ghost use Rattle.sip_clients.specs.Name.{opening_tag};
     ghost use Rattle.sip_round.specs.NewTransactions.{would_begin};
     ghost use Rattle.sip_round.specs.NextDue.{IsDueAfter, IsQuietAfter};
     ghost use Rattle.sip_round.specs.SameRounds.{LeaveTheSame};
@@ -157,6 +159,21 @@ impl<C: Cut + Drop> Agent<C> {
         }
         let key = key_of(self.alloc, message)?;
         Ok(!shards.holds(&self.cut, &key))
+    }
+
+    /// The tag that the agent gives itself where the command with this id sends an INVITE, or another
+    /// request outside of dialogs (RFC 3261, section 8.1.1.3). Dialogs are held by it, whatever tag
+    /// a peer's response has in its place.
+    ///
+    /// # Errors
+    ///
+    /// Memory ran out.
+    pub fn opening_tag(&self, id: Id) -> Result<Token, AllocError>
+        ensures seed { IfOk result (λ tag. tag ≡ opening_tag self.now.calls.seed id) }
+        ensures config { IfOk result (λ tag. (config : Config) (rounds : List Round)
+            → StandsFor C.shard_of self.now config rounds → tag ≡ opening_tag config.seed id) }
+    {
+        opening_tag(self.alloc, self.calls.seed, id)
     }
 
     /// The number of the next round. The ids of its events have it. Takes no memory.

@@ -28,5 +28,6 @@ pub use laws::{
 pub use output::{Output, PlacedOutput};
 pub use round::{Event, Round, datagram_at, event_at};
 pub use round_fault::RoundFault;
+pub use sip_clients::opening_tag;
 pub use sip_workers::{Gate, NoMemory, OpenGate};
 pub use whole_run::run;

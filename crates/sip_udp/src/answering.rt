@@ -69,7 +69,7 @@ impl Answering {
             return self.answer(alloc, &invite, events);
         }
         if self.shared.plan.makes_dialogs() {
-            self.dialogs.add(alloc, &invite.call_id, invite.id, tags)?;
+            self.dialogs.add(&invite.call_id, invite.id, tags)?;
         }
         if !self.shared.plan.reliable {
             return self.alert(alloc, now, invite, events);
@@ -100,13 +100,13 @@ impl Answering {
     fn confirm(
         &mut self,
         alloc: Global,
-        call_id: &CallId,
         id: Id,
         events: &mut Vec<Event>,
     ) -> Result<(), AllocError> {
-        self.dialogs.confirm(call_id, id);
+        self.dialogs.confirm(id);
         if self.is_leaving {
-            self.dialogs.hang_up(alloc, events)?;
+            self.dialogs.end(alloc, id, events)?;
+            self.dialogs.remove_of(id);
         }
         Ok(())
     }
@@ -251,13 +251,13 @@ impl User for Answering {
                 refusal: Refusal::NotSupported,
                 ..
             } => self.go_on(alloc, now, call_id, None, events),
-            Notice::Cancel { call_id, id } => {
+            Notice::Cancel { id, .. } => {
                 self.unanswered.retain(|one| one.id != *id);
-                self.dialogs.remove_of(call_id, *id);
+                self.dialogs.remove_of(*id);
                 Ok(())
             }
-            Notice::Ack { call_id, id, .. } => self.confirm(alloc, call_id, *id, events),
-            Notice::NoAck { call_id, id } => self.dialogs.give_up(alloc, call_id, *id, events),
+            Notice::Ack { id, .. } => self.confirm(alloc, *id, events),
+            Notice::NoAck { id, .. } => self.dialogs.end(alloc, *id, events),
             Notice::Ended {
                 call_id,
                 local_tag,

@@ -7,7 +7,7 @@ use crate::sdp;
 use crate::time_limit::TimeLeft;
 use crate::user::User;
 use sip_message::{Addr, Content, Id, StatusCode, Token, Uri, ip_text};
-use sip_round::Event;
+use sip_round::{Config, Event, opening_tag};
 use sip_text::Text;
 use sip_user::{Cancel, DialogBody, Notice, UserCommand};
 use std::alloc::{AllocError, Global};
@@ -32,7 +32,6 @@ enum Stage {
 /// A dialog that stays up until its BYE.
 #[derive(Drop)]
 struct Up {
-    local_tag: Text,
     remote_tag: Text,
     /// The moment of the BYE, in ms.
     due: u64,
@@ -46,8 +45,10 @@ struct Up {
 /// says so; after the end of the input this is always done.
 #[derive(Drop)]
 pub(crate) struct Calling {
-    // The agent's own address.
+    // The agent's own address, and its tag in the dialogs of the INVITE. A notice has the tag that
+    // the peer's response has in its place.
     local: Addr,
+    local_tag: Text,
     plan: CallPlan,
     // Whether the call is ended in the last second.
     leaves: bool,
@@ -56,14 +57,21 @@ pub(crate) struct Calling {
 }
 
 impl Calling {
-    pub(crate) fn new(local: Addr, plan: CallPlan) -> Calling {
-        Calling {
-            local,
+    /// The user of an agent with this configuration.
+    pub(crate) fn new(
+        alloc: Global,
+        config: &Config,
+        plan: CallPlan,
+    ) -> Result<Calling, AllocError> {
+        let tag = opening_tag(alloc, config.seed, INVITE)?;
+        Ok(Calling {
+            local: config.local,
+            local_tag: tag.into_text(alloc)?,
             leaves: plan.leaves,
             plan,
             stage: Stage::Asked,
             up: None,
-        }
+        })
     }
 
     // A final response to the INVITE came, with this status.
@@ -72,7 +80,6 @@ impl Calling {
         alloc: Global,
         now: u64,
         status: StatusCode,
-        local_tag: &Text,
         remote_tag: &Text,
         body: &Text,
         events: &mut Vec<Event>,
@@ -84,19 +91,29 @@ impl Calling {
         let former = self.stage;
         self.stage = Stage::Answered;
         if self.is_offered(body) {
-            self.answer_offer(alloc, status, local_tag, remote_tag, body, events)?;
+            self.answer_offer(alloc, status, remote_tag, body, events)?;
         }
         match self.plan.hold {
             Some(hold) if former == Stage::Asked => {
                 self.up = Some(Up {
-                    local_tag: local_tag.clone()?,
                     remote_tag: remote_tag.clone()?,
                     due: now.saturating_add(u64::from(hold)),
                 });
             }
-            _ => return end_dialog(alloc, &self.plan.call_id, local_tag, remote_tag, events),
+            _ => return self.end(alloc, remote_tag, events),
         }
         Ok(())
+    }
+
+    // Ends the dialog with this remote tag.
+    fn end(
+        &self,
+        alloc: Global,
+        remote_tag: &Text,
+        events: &mut Vec<Event>,
+    ) -> Result<(), AllocError> {
+        let call_id = &self.plan.call_id;
+        end_dialog(alloc, call_id, &self.local_tag, remote_tag, events)
     }
 
     // Whether the body of a response is an offer. If the INVITE has a body, that is the offer, and
@@ -105,19 +122,18 @@ impl Calling {
         !body.is_empty() && self.plan.body.is_empty()
     }
 
-    // Answers the offer of a response with these tags: in the ACK of a final one, or in the PRACK
+    // Answers the offer of a response with this remote tag: in the ACK of a final one, or in the PRACK
     // of a provisional one.
     fn answer_offer(
         &self,
         alloc: Global,
         status: StatusCode,
-        local_tag: &Text,
         remote_tag: &Text,
         offer: &Text,
         events: &mut Vec<Event>,
     ) -> Result<(), AllocError> {
         let call_id = self.plan.call_id.clone()?;
-        let local_tag = Token::new(local_tag.clone()?);
+        let local_tag = Token::new(self.local_tag.clone()?);
         let remote_tag = Token::new(remote_tag.clone()?);
         let answer = sdp::inactive(alloc, self.local.ip, 0, offer.as_slice())?;
         let body = DialogBody {
@@ -191,22 +207,20 @@ impl User for Calling {
             Notice::Response {
                 id,
                 status,
-                local_tag,
                 remote_tag,
                 body,
                 ..
             } if *id == INVITE && is_final(*status) => {
-                self.answered(alloc, now, *status, local_tag, remote_tag, body, events)?;
+                self.answered(alloc, now, *status, remote_tag, body, events)?;
             }
             Notice::Response {
                 id,
                 status,
-                local_tag,
                 remote_tag,
                 body,
                 ..
             } if *id == INVITE && self.plan.is_reliable && self.is_offered(body) => {
-                self.answer_offer(alloc, *status, local_tag, remote_tag, body, events)?;
+                self.answer_offer(alloc, *status, remote_tag, body, events)?;
             }
             Notice::Timeout { id, .. } | Notice::Failed { id, .. } if *id == INVITE => {
                 self.refused();
@@ -231,8 +245,7 @@ impl User for Calling {
         self.leaves = self.leaves || left == TimeLeft::InputEnded;
         let is_leaving = self.leaves && left != TimeLeft::More;
         if let Some(up) = self.due_dialog(now, is_leaving) {
-            let call_id = &self.plan.call_id;
-            end_dialog(alloc, call_id, &up.local_tag, &up.remote_tag, events)?;
+            self.end(alloc, &up.remote_tag, events)?;
         }
         if is_leaving && self.stage == Stage::Asked {
             return self.cancel(events);

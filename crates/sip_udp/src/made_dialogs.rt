@@ -6,13 +6,11 @@ use sip_round::Event;
 use sip_text::Text;
 use std::alloc::{AllocError, Global};
 use std::collections::BTreeMap;
-use std::mem;
 
 /// A dialog that an INVITE makes.
 #[derive(Drop)]
 struct Made {
-    // The INVITE.
-    id: Id,
+    call_id: CallId,
     local_tag: Text,
     remote_tag: Text,
     re_invites: u32,
@@ -21,118 +19,107 @@ struct Made {
 }
 
 impl Made {
-    fn has(&self, tags: (&Text, &Text)) -> bool {
+    fn is(&self, call_id: &CallId, tags: (&Text, &Text)) -> bool {
         let (local_tag, remote_tag) = tags;
-        self.local_tag == *local_tag && self.remote_tag == *remote_tag
+        self.local_tag == *local_tag && self.remote_tag == *remote_tag && self.call_id == *call_id
+    }
+
+    fn end(&self, alloc: Global, events: &mut Vec<Event>) -> Result<(), AllocError> {
+        let (call_id, local_tag) = (&self.call_id, &self.local_tag);
+        end_dialog(alloc, call_id, local_tag, &self.remote_tag, events)
     }
 }
 
-/// The dialogs that INVITEs make, by their Call-IDs. Of two tags the first is one's own.
+/// The dialogs that INVITEs make. Of two tags the first is one's own. A peer can make many in one
+/// call, so nothing here looks at all dialogs of a call.
 #[derive(Drop)]
 pub(crate) struct MadeDialogs {
-    calls: BTreeMap<CallId, Vec<Made>>,
+    /// By the INVITE.
+    made: BTreeMap<Id, Made>,
+    /// The INVITE of each, by one's own tag, which no other dialog has.
+    invites: BTreeMap<Text, Id>,
 }
 
 impl MadeDialogs {
     /// None.
     pub(crate) fn new(alloc: Global) -> MadeDialogs {
         MadeDialogs {
-            calls: BTreeMap::new(alloc),
+            made: BTreeMap::new(alloc),
+            invites: BTreeMap::new(alloc),
         }
     }
 
     /// Adds the dialog that this INVITE makes.
     pub(crate) fn add(
         &mut self,
-        alloc: Global,
         call_id: &CallId,
         id: Id,
         tags: (&Text, &Text),
     ) -> Result<(), AllocError> {
         let (local_tag, remote_tag) = tags;
+        self.invites.insert(local_tag.clone()?, id)?;
         let made = Made {
-            id,
+            call_id: call_id.clone()?,
             local_tag: local_tag.clone()?,
             remote_tag: remote_tag.clone()?,
             re_invites: 0,
             is_confirmed: false,
         };
-        if let Some(dialogs) = self.calls.get_mut(call_id) {
-            dialogs.push(made)?;
-            return Ok(());
-        }
-        let mut dialogs = Vec::new(alloc);
-        dialogs.push(made)?;
-        self.calls.insert(call_id.clone()?, dialogs)?;
+        self.made.insert(id, made)?;
         Ok(())
     }
 
     /// Counts an INVITE in the dialog of these tags. Returns its number, from 1, if there is such a
     /// dialog.
     pub(crate) fn re_invited(&mut self, call_id: &CallId, tags: (&Text, &Text)) -> Option<u32> {
-        let dialogs = self.calls.get_mut(call_id)?;
-        for made in dialogs.iter_mut() {
-            if made.has(tags) {
-                made.re_invites = made.re_invites.saturating_add(1);
-                return Some(made.re_invites);
-            }
+        let id = self.invite_of(call_id, tags)?;
+        let made = self.made.get_mut(&id)?;
+        made.re_invites = made.re_invites.saturating_add(1);
+        Some(made.re_invites)
+    }
+
+    // The INVITE that made the dialog of these tags.
+    fn invite_of(&self, call_id: &CallId, tags: (&Text, &Text)) -> Option<Id> {
+        let id = *self.invites.get(tags.0)?;
+        if self.made.get(&id)?.is(call_id, tags) {
+            Some(id)
+        } else {
+            None
         }
-        None
     }
 
     /// The ACK of this INVITE came.
-    pub(crate) fn confirm(&mut self, call_id: &CallId, id: Id) {
-        let Some(dialogs) = self.calls.get_mut(call_id) else {
-            return;
-        };
-        for made in dialogs.iter_mut() {
-            if made.id == id {
-                made.is_confirmed = true;
-            }
+    pub(crate) fn confirm(&mut self, id: Id) {
+        if let Some(made) = self.made.get_mut(&id) {
+            made.is_confirmed = true;
         }
     }
 
-    /// No ACK of this INVITE came in time. Sends a BYE in its dialog (RFC 3261, section 13.3.1.4).
-    pub(crate) fn give_up(
+    /// Sends a BYE in the dialog of this INVITE, for example if no ACK came in time (RFC 3261,
+    /// section 13.3.1.4).
+    pub(crate) fn end(
         &self,
         alloc: Global,
-        call_id: &CallId,
         id: Id,
         events: &mut Vec<Event>,
     ) -> Result<(), AllocError> {
-        let Some(dialogs) = self.calls.get(call_id) else {
-            return Ok(());
-        };
-        for made in dialogs {
-            if made.id == id {
-                end_dialog(alloc, call_id, &made.local_tag, &made.remote_tag, events)?;
-            }
+        match self.made.get(&id) {
+            Some(made) => made.end(alloc, events),
+            None => Ok(()),
         }
-        Ok(())
     }
 
-    /// This INVITE was cancelled.
-    pub(crate) fn remove_of(&mut self, call_id: &CallId, id: Id) {
-        if let Some(dialogs) = self.calls.get_mut(call_id) {
-            dialogs.retain(|made| made.id != id);
+    /// This INVITE was cancelled, or its dialog gets a BYE.
+    pub(crate) fn remove_of(&mut self, id: Id) {
+        if let Some(made) = self.made.remove(&id) {
+            self.invites.remove(&made.local_tag);
         }
-        self.remove_empty(call_id);
     }
 
     /// The dialog of these tags ended.
     pub(crate) fn remove(&mut self, call_id: &CallId, tags: (&Text, &Text)) {
-        if let Some(dialogs) = self.calls.get_mut(call_id) {
-            dialogs.retain(|made| !made.has(tags));
-        }
-        self.remove_empty(call_id);
-    }
-
-    fn remove_empty(&mut self, call_id: &CallId) {
-        match self.calls.get(call_id) {
-            Some(dialogs) if dialogs.is_empty() => {
-                self.calls.remove(call_id);
-            }
-            _ => {}
+        if let Some(id) = self.invite_of(call_id, tags) {
+            self.remove_of(id);
         }
     }
 
@@ -142,30 +129,16 @@ impl MadeDialogs {
         alloc: Global,
         events: &mut Vec<Event>,
     ) -> Result<(), AllocError> {
-        for (call_id, dialogs) in mem::replace(&mut self.calls, BTreeMap::new(alloc)) {
-            let unconfirmed = hang_up_each(alloc, &call_id, dialogs, events)?;
-            if !unconfirmed.is_empty() {
-                self.calls.insert(call_id, unconfirmed)?;
+        let mut ended = Vec::new(alloc);
+        for (id, made) in self.made.iter() {
+            if made.is_confirmed {
+                made.end(alloc, events)?;
+                ended.push(*id)?;
             }
+        }
+        for id in ended {
+            self.remove_of(id);
         }
         Ok(())
     }
-}
-
-// Sends a BYE in each confirmed dialog of a call. Returns the others.
-fn hang_up_each(
-    alloc: Global,
-    call_id: &CallId,
-    dialogs: Vec<Made>,
-    events: &mut Vec<Event>,
-) -> Result<Vec<Made>, AllocError> {
-    let mut unconfirmed = Vec::new(alloc);
-    for made in dialogs {
-        if made.is_confirmed {
-            end_dialog(alloc, call_id, &made.local_tag, &made.remote_tag, events)?;
-        } else {
-            unconfirmed.push(made)?;
-        }
-    }
-    Ok(unconfirmed)
 }

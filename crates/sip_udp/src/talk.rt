@@ -160,7 +160,7 @@ pub fn call_from<R: Threads + Clock + Files + Sync, F: RecordFile, W: Write, E: 
     notices: &mut W,
     errors: &mut E,
 ) -> Result<(), UaFault> {
-    let user = Calling::new(endpoint.config.local, plan);
+    let user = Calling::new(alloc, &endpoint.config, plan)?;
     let others = Vec::new(alloc);
     talk(rt, alloc, endpoint, user, others, None, notices, errors)
 }
