@@ -2,7 +2,9 @@
 
 import re
 import resource
+import signal
 import tempfile
+from collections import Counter
 from pathlib import Path
 
 from agents import plain
@@ -140,6 +142,38 @@ def a_call_goes_on_after_a_crash():
                 ended = listener.ended()
         expect("status", 0, ended.status)
         expect("refusals", False, " refused " in ended.output)
+
+
+@test
+def calls_that_ring_are_answered_wherever_a_journal_ends():
+    """A listener stood still while many calls came, so that full rounds wait when its phones have
+    rung. It asks for their answers later than usual, which the next run can't know."""
+    local, calls = free_address(), 400
+    words = ["listen", "--local", local, "--ring", "5", "--turns"]
+    with Room() as room:
+        journal = ["--journal", room.journal]
+        with Running(*words, "200", *journal) as listener, Peer(listener.ready()) as peer:
+            listener.process.send_signal(signal.SIGSTOP)
+            for number in range(calls):
+                peer.ask("INVITE", f"c{number}")
+            listener.process.send_signal(signal.SIGCONT)
+            peer.receive("SIP/2.0 200 ", f"Call-ID: c{calls - 1}\r\n")
+            expect("status", 0, listener.ended().status)
+        head, *rounds = read(room.journal).split("\nround ")
+        expect("a full round", True, any(it.count("datagram ") == 63 for it in rounds))
+        for end in range(1, len(rounds) + 1):
+            room.journal.write_bytes(
+                ("\nround ".join([head, *rounds[:end]]) + "\n").encode("latin-1"))
+            expect("status", 0, ran(*words, "30", *journal).status)
+            text = read(room.journal)
+            came = set(re.findall(r"INVITE sip.*Call-ID: (c\d+)", text))
+            answers = re.findall(r"\nrespond (c\d+) \S+ 200 ", text)
+            expect(f"calls without an answer after {end} rounds", set(), came - set(answers))
+            expect("calls that are answered twice", [], twice(answers))
+
+
+def twice(answers):
+    return [call for call, count in Counter(answers).items() if count > 1]
 
 
 @test

@@ -21,7 +21,7 @@ use crate::sending::send_all;
 use crate::time_limit::{TimeLeft, TimeLimit};
 use crate::user::User;
 use sip_desk::Desk;
-use sip_files::FileKind;
+use sip_files::{FileKind, write_event};
 use sip_journal::{LinesFault, read_round};
 use sip_message::Spread;
 use sip_round::{Agent, Event, OpenGate, Output, PlacedOutput, Round};
@@ -258,7 +258,8 @@ impl<U: User, F: RecordFile> Turns<U, F> {
         }
     }
 
-    // Runs a past round again. What the user asked for in it was asked for then.
+    // Runs a past round again. What the user asked for in it was asked for then; the first one has
+    // all that the user begins with.
     fn run_again<R: Threads + Clock + Sync, E: Write>(
         &mut self,
         rt: &R,
@@ -266,6 +267,9 @@ impl<U: User, F: RecordFile> Turns<U, F> {
         last: &mut Option<PastRound>,
         errors: &mut E,
     ) -> Result<(), UaFault> {
+        if last.is_none() {
+            self.waiting = Vec::new(self.alloc);
+        }
         self.skip_asked(&round, errors)?;
         let outputs = self.run(rt, &round)?;
         self.number = self.number.saturating_add(1);
@@ -274,15 +278,20 @@ impl<U: User, F: RecordFile> Turns<U, F> {
         Ok(())
     }
 
-    // Leaves out what the user asks for in a past round.
+    // Asks the user at a past round, and leaves out what that round has already. What was asked for
+    // while a full round waited stands in a later one: it goes on waiting until then.
     fn skip_asked<E: Write>(&mut self, round: &Round, errors: &mut E) -> Result<(), AllocError> {
         if !self.user.is_eager() {
             let (now, left) = (round.moment, TimeLeft::More);
             self.user
                 .turn(self.alloc, now, left, &mut self.waiting, errors)?;
         }
-        let asked = commands_in(round.events.as_slice()).min(self.waiting.len());
-        self.waiting = self.waiting.split_off(asked)?;
+        let mut asked = commands_in(self.alloc, round.events.as_slice())?;
+        for event in mem::replace(&mut self.waiting, Vec::new(self.alloc)) {
+            if asked.is_empty() || !take_same(self.alloc, &event, &mut asked)? {
+                self.waiting.push(event)?;
+            }
+        }
         Ok(())
     }
 
@@ -655,10 +664,29 @@ fn since_1970<R: Clock>(rt: &R) -> Result<u64, UaFault> {
     }
 }
 
-// How many of the events are commands.
-fn commands_in(events: &[Event]) -> usize {
-    events
-        .iter()
-        .filter(|event| matches!(event, Event::Command(_)))
-        .count()
+// The lines of those events that are commands.
+fn commands_in(alloc: Global, events: &[Event]) -> Result<Vec<Vec<u8>>, AllocError> {
+    let mut lines = Vec::new(alloc);
+    for event in events {
+        if let Event::Command(_) = event {
+            lines.push(write_event(alloc, event)?)?;
+        }
+    }
+    Ok(lines)
+}
+
+// Takes the line that says the same as this event out of these, if there is one.
+fn take_same(
+    alloc: Global,
+    event: &Event,
+    lines: &mut Vec<Vec<u8>>,
+) -> Result<bool, AllocError> {
+    let own = write_event(alloc, event)?;
+    match lines.iter().position(|line| *line == own) {
+        Some(index) => {
+            lines.remove(index);
+            Ok(true)
+        }
+        None => Ok(false),
+    }
 }
