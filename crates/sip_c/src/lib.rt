@@ -27,9 +27,8 @@ pub use handle::Handle;
 pub use journal::{sip_ua_raw_resume, sip_ua_raw_round_text};
 pub use questions::{
     sip_ua_raw_datagram_at, sip_ua_raw_header_line, sip_ua_raw_header_lines,
-    sip_ua_raw_header_value, sip_ua_raw_header_values, sip_ua_raw_last_id,
-    sip_ua_raw_opening_tag, sip_ua_raw_request_traits, sip_ua_raw_start_line, sip_ua_raw_stats,
-    sip_ua_raw_would_begin,
+    sip_ua_raw_header_value, sip_ua_raw_header_values, sip_ua_raw_last_id, sip_ua_raw_opening_tag,
+    sip_ua_raw_request_traits, sip_ua_raw_start_line, sip_ua_raw_stats, sip_ua_raw_would_begin,
 };
 pub use typed::TypedOutput;
 pub use values::{

@@ -1,6 +1,6 @@
 -- Responses that a repeat of a request has sent again, to whoever sent the request first, though the
 -- repeat came from elsewhere.
-use Rattle.std.specs.Prelude.{ℕ, nat_eq, Bool, false, not, ◌&&◌, List, codes, Option, Some, None}
+use Rattle.std.specs.Prelude.{ℕ, nat_eq, Bool, false, not, ◌&&◌, List, codes, Option, Some}
 use Rattle.std.specs.List.{starts_with}
 use Rattle.std.specs.Str.{bytes_eq}
 use Rattle.sip_round.specs.Places.{event_at}

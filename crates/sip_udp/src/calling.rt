@@ -122,8 +122,8 @@ impl Calling {
         !body.is_empty() && self.plan.body.is_empty()
     }
 
-    // Answers the offer of a response with this remote tag: in the ACK of a final one, or in the PRACK
-    // of a provisional one.
+    // Answers the offer of a response with this remote tag: in the ACK of a final one, or in the
+    // PRACK of a provisional one.
     fn answer_offer(
         &self,
         alloc: Global,

@@ -122,8 +122,8 @@ impl<U: Drop, F: Drop> Drop for Turns<U, F> {
 }
 
 impl<U: User, F: RecordFile> Turns<U, F> {
-    /// The turns of a user at an endpoint, before the first one. They take the endpoint's record; the
-    /// head of one that is new is written.
+    /// The turns of a user at an endpoint, before the first one. They take the endpoint's record;
+    /// the head of one that is new is written.
     ///
     /// # Errors
     ///
@@ -325,8 +325,8 @@ impl<U: User, F: RecordFile> Turns<U, F> {
         }
     }
 
-    /// Takes its turns: fewer than the endpoint says if the time is over, the user wants no more, or
-    /// the listener has ended.
+    /// Takes its turns: fewer than the endpoint says if the time is over, the user wants no more,
+    /// or the listener has ended.
     pub(crate) fn take<R: Threads + Clock + Sync, W: Write, E: Write>(
         &mut self,
         rt: &R,
@@ -676,11 +676,7 @@ fn commands_in(alloc: Global, events: &[Event]) -> Result<Vec<Vec<u8>>, AllocErr
 }
 
 // Takes the line that says the same as this event out of these, if there is one.
-fn take_same(
-    alloc: Global,
-    event: &Event,
-    lines: &mut Vec<Vec<u8>>,
-) -> Result<bool, AllocError> {
+fn take_same(alloc: Global, event: &Event, lines: &mut Vec<Vec<u8>>) -> Result<bool, AllocError> {
     let own = write_event(alloc, event)?;
     match lines.iter().position(|line| *line == own) {
         Some(index) => {
