@@ -12,6 +12,7 @@
 #include <arpa/inet.h>
 #include <errno.h>
 #include <fcntl.h>
+#include <inttypes.h>
 #include <poll.h>
 #include <signal.h>
 #include <stdio.h>
@@ -102,13 +103,15 @@ static void append_head(const sip_ua_configuration *configuration)
     append(head, (size_t)at);
 }
 
-/* Reads the seed of a head, which has to be of the same address. Returns the bytes of the head. */
+/* Reads the seed of a head, which has to be of the same address, and the number of its first round:
+ * after `ua compact` that isn't 0. Returns the bytes of the head. */
 static size_t read_head(const char *text, sip_ua_configuration *configuration)
 {
     unsigned ip[4], port, byte;
     int seed_at = 0, len = 0;
-    if (sscanf(text, "sip-session 1\nlocal %u.%u.%u.%u:%u\nseed %n%*64[0-9a-f]\nfirst 0%n", &ip[0],
-               &ip[1], &ip[2], &ip[3], &port, &seed_at, &len) != 5 || text[len] != '\n')
+    if (sscanf(text, "sip-session 1\nlocal %u.%u.%u.%u:%u\nseed %n%*64[0-9a-f]\nfirst %" SCNu64 "%n",
+               &ip[0], &ip[1], &ip[2], &ip[3], &port, &seed_at, &configuration->first, &len) != 6
+        || text[len] != '\n')
         die("journal", "not a journal");
     for (int i = 0; i < 4; i++)
         if (ip[i] != configuration->local.ip[i])
