@@ -105,8 +105,8 @@ def a_callee_that_changes_the_callers_tag():
     """Its 200 has another tag in From. The BYE has the tag that was sent, and ends the call."""
     with Peer(ANY) as callee:
         with Running(*calling(callee.address)) as caller:
-            callee.other = caller.ready()
             invite = callee.receive("INVITE ")
+            callee.other = re.search(r"SIP/2.0/UDP ([0-9.:]+)", invite)[1]
             tag = tag_of(invite, "From")
             callee.answer(invite.replace(tag, "another"), "200 OK", "b",
                           f"Contact: <sip:b@{callee.address}>")
