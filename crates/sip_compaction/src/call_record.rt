@@ -49,7 +49,7 @@ pub(crate) struct CallRecord {
     received: BTreeMap<Id, Received>,
     // The dialogs that haven't ended.
     dialogs: BTreeSet<DialogTags>,
-    // The Call-IDs of calls with which it shares a transaction.
+    // The Call-IDs of the calls that are linked with it.
     linked: BTreeSet<Text>,
 }
 
@@ -85,13 +85,14 @@ impl CallRecord {
         self.last_moment = moment;
     }
 
-    /// It shares a transaction with the call with this Call-ID.
+    /// A transaction of one of the two calls took a datagram with the Call-ID of the other one: it
+    /// is linked with the call with this Call-ID.
     pub(crate) fn link(&mut self, call_id: Text) -> Result<(), AllocError> {
         self.linked.insert(call_id)?;
         Ok(())
     }
 
-    /// The Call-IDs of calls with which it shares a transaction.
+    /// The Call-IDs of the calls that are linked with it.
     pub(crate) fn linked(&self) -> &BTreeSet<Text> {
         &self.linked
     }

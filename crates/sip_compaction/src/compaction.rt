@@ -22,11 +22,11 @@ struct Choice {
 }
 
 /// Reads a journal twice, from two readers, and writes a shorter one. It keeps the events of each
-/// call of which something may be held at the end, and of those that are linked with it: a
-/// transaction of one took a datagram that names the other one, or both share such a link. It
-/// begins with the first round of these, and has the last round as a whole. So it should leave an
-/// agent that holds the same: `leaves_the_same` tells. It holds in memory what the agent holds, one
-/// round, and the keys of the transactions of the calls that it keeps.
+/// call of which something may be held at the end, and of those that are linked with it, directly
+/// or by others: two are linked if a transaction of one took a datagram that names the other one.
+/// It begins with the first round of these calls, and has the last round as a whole. So it should
+/// leave an agent that holds the same: `leaves_the_same` tells. It holds in memory what the agent
+/// holds, one round, and the keys of the transactions of the calls that it keeps.
 ///
 /// # Errors
 ///
