@@ -271,6 +271,99 @@ def last_round(session):
     return replayed(session, "--session").rpartition("\nround ")[2]
 
 
+# The agent of the journals that are made here, its peer, and how many calls they have.
+OWN, PEER = "127.0.0.1:6400", "127.0.0.1:6410"
+CALLS = 16
+
+
+@test
+def a_transaction_that_takes_a_datagram_of_another_call():
+    """The INVITE of each call comes again 25 s later, with another Call-ID, while its transaction
+    lasts. So a call that is over stays in the short journal as long as the other one."""
+    whole = SESSION
+    for number in range(CALLS):
+        moment, call = 12_000 * number, f"a{number}"
+        whole = with_answer(whole, moment, call, asked("INVITE", call, number))
+        tag = tag_in(whole, call)
+        whole += round_of(moment, asked("ACK", call, f"ack{number}", 1, tag))
+        whole = with_answer(whole, moment, call, asked("BYE", call, f"bye{number}", 2, tag))
+        if number >= 2:
+            again = asked("INVITE", f"b{number - 2}", number - 2)
+            whole += round_of(moment + 1_000, again)
+    expect("a call of its own", False, "notice b" in replayed(whole, "--session"))
+    # The calls that ended within 37 s, and those that came again within 37 s.
+    few = range(CALLS - 6, CALLS)
+    calls = {f"a{number}" for number in few} | {f"b{number}" for number in few[:-2]}
+    after = [asked("INVITE", f"c{number}", number) for number in few]
+    expect_short(whole, calls, round_of(12_000 * CALLS, *after))
+
+
+@test
+def a_response_with_the_call_id_of_another_call():
+    """It answers the agent's INVITE, and makes a dialog of the call that this began."""
+    invite = f"invite up {PEER} sip:b@{PEER} sip:a@{OWN} sip:b@{PEER} none -\n"
+    whole = SESSION + round_of(0, invite)
+    sent = replayed(whole, "--session")
+    branch, tag = re.search(r";branch=([^\\]+).*;tag=([^\\]+)", sent).groups()
+    whole += round_of(0, datagram(
+        "SIP/2.0 200 OK", f"Via: SIP/2.0/UDP {OWN};branch={branch}",
+        f"From: <sip:a@{OWN}>;tag={tag}", f"To: <sip:b@{PEER}>;tag=peer",
+        "Call-ID: other", "CSeq: 1 INVITE", f"Contact: <sip:b@{PEER}>"))
+    expect("the call", True, "notice up response 0.1 200 " in replayed(whole, "--session"))
+    for number in range(CALLS):
+        call = f"over{number}"
+        whole = with_answer(whole, 1_000 * number, call, asked("OPTIONS", call, number))
+    last = 1_000 * CALLS + 37_000
+    bye = round_of(last, asked("BYE", "up", "bye", 2, tag))
+    expect_short(whole + round_of(last), {"up", "other"}, bye)
+
+
+# A journal without a round.
+SESSION = f"sip-session 1\nlocal {OWN}\nseed {64 * '0'}\nfirst 0\n"
+
+
+def round_of(moment, *events):
+    return f"round {moment}\n" + "".join(events)
+
+
+def with_answer(journal, moment, call, request):
+    """The journal with a request of the peer, and with its answer in the next round."""
+    number = journal.count("\nround ")
+    answer = f"respond {call} {number}.1 200 plain - OK\n"
+    return journal + round_of(moment, request) + round_of(moment, answer)
+
+
+def tag_in(journal, call):
+    """The agent's tag in a call of the peer."""
+    output = replayed(journal, "--session")
+    return re.search(rf"notice {call} request \S+ INVITE (\S+) ", output)[1]
+
+
+def asked(method, call, branch, number=1, tag=""):
+    """A request of the peer."""
+    return datagram(
+        f"{method} sip:a@{OWN} SIP/2.0", f"Via: SIP/2.0/UDP {PEER};branch=z9hG4bK{branch}",
+        f"From: <sip:b@{PEER}>;tag=peer", f"To: <sip:a@{OWN}>" + (tag and f";tag={tag}"),
+        f"Call-ID: {call}", f"CSeq: {number} {method}", f"Contact: <sip:b@{PEER}>")
+
+
+def datagram(*lines):
+    """A message of the peer."""
+    return f"datagram {PEER} " + "".join(f"{line}\\r\\n" for line in [*lines, ""]) + "\n"
+
+
+def expect_short(whole, calls, after):
+    """The short journal has these calls alone, and answers alike what comes after."""
+    with Room() as room:
+        room.journal.write_text(whole)
+        short = Path(room.folder.name, "short")
+        ended = ran("compact", "--journal", room.journal, "--into", short)
+        expect("the end", (0, "", ""), ended)
+        compact = read(short)
+    found = re.findall(r"\n(?:invite |datagram .*\\nCall-ID: )([^ \\]+)", compact)
+    expect("the calls of the short one", calls, set(found))
+    expect("what comes after", last_round(whole + after), last_round(compact + after))
+
 @test
 def a_journal_that_is_torn_is_not_made_short():
     with Room() as room:

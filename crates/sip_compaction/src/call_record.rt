@@ -49,6 +49,8 @@ pub(crate) struct CallRecord {
     received: BTreeMap<Id, Received>,
     // The dialogs that haven't ended.
     dialogs: BTreeSet<DialogTags>,
+    // The Call-IDs of the calls that are linked with it.
+    linked: BTreeSet<Text>,
 }
 
 impl CallRecord {
@@ -60,6 +62,7 @@ impl CallRecord {
             sent: BTreeMap::new(alloc),
             received: BTreeMap::new(alloc),
             dialogs: BTreeSet::new(alloc),
+            linked: BTreeSet::new(alloc),
         }
     }
 
@@ -80,6 +83,18 @@ impl CallRecord {
     /// Something of the call came at this moment.
     pub(crate) fn touch(&mut self, moment: u64) {
         self.last_moment = moment;
+    }
+
+    /// A transaction of one of the two calls took a datagram with the Call-ID of the other one: it
+    /// is linked with the call with this Call-ID.
+    pub(crate) fn link(&mut self, call_id: Text) -> Result<(), AllocError> {
+        self.linked.insert(call_id)?;
+        Ok(())
+    }
+
+    /// The Call-IDs of the calls that are linked with it.
+    pub(crate) fn linked(&self) -> &BTreeSet<Text> {
+        &self.linked
     }
 
     /// The command with this id was carried out.

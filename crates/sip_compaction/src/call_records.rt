@@ -1,7 +1,8 @@
 //! What the rounds of a journal leave open of each call.
 
 use crate::call_record::CallRecord;
-use sip_message::Id;
+use crate::event_names::EventNames;
+use sip_message::{Id, Key, SharedKey};
 use sip_reader::header_values;
 use sip_round::{Event, Output, Round};
 use sip_text::Text;
@@ -20,6 +21,8 @@ const FEW: usize = 1024;
 pub(crate) struct CallRecords {
     alloc: Global,
     calls: BTreeMap<Text, CallRecord>,
+    // The transactions of these calls, each with its first call.
+    transactions: BTreeMap<SharedKey, Text>,
     // At how many calls those that ended are looked for again.
     many: usize,
 }
@@ -30,6 +33,7 @@ impl CallRecords {
         CallRecords {
             alloc,
             calls: BTreeMap::new(alloc),
+            transactions: BTreeMap::new(alloc),
             many: FEW,
         }
     }
@@ -55,9 +59,9 @@ impl CallRecords {
             let is_refused = refused.contains(&id.place);
             self.take_event(id, round.moment, event, is_refused)?;
         }
-        self.take_notices(number, round.moment, outputs)?;
+        self.take_outputs(number, round.moment, outputs)?;
         if self.calls.len() >= self.many {
-            self.forget(round.moment);
+            self.forget(round.moment)?;
             self.many = self.calls.len().saturating_mul(2).max(FEW);
         }
         Ok(())
@@ -70,30 +74,77 @@ impl CallRecords {
         event: &Event,
         is_refused: bool,
     ) -> Result<(), AllocError> {
-        let Some(call_id) = call_id_of(self.alloc, event)? else {
+        let Some(EventNames { call_id, key }) = EventNames::of(self.alloc, event)? else {
             return Ok(());
         };
-        let record = self.record_of(call_id, id.round, moment)?;
+        let record = self.record_of(call_id.clone()?, id.round, moment)?;
         match event {
-            Event::Command(command) if !is_refused => record.take_command(id, command),
-            _ => Ok(()),
+            Event::Command(command) if !is_refused => record.take_command(id, command)?,
+            _ => {}
+        }
+        match key {
+            Some(key) => self.take_transaction(key, &call_id),
+            None => Ok(()),
         }
     }
 
-    fn take_notices(
+    fn take_outputs(
         &mut self,
         number: u64,
         moment: u64,
         outputs: &[Output],
     ) -> Result<(), AllocError> {
         for output in outputs {
-            if let Output::Notice(notice) = output {
-                let call_id = Text::copy_of(self.alloc, call_id_in(notice))?;
-                self.record_of(call_id, number, moment)?
-                    .take_notice(notice)?;
+            match output {
+                Output::Notice(notice) => {
+                    let call_id = Text::copy_of(self.alloc, call_id_in(notice))?;
+                    self.record_of(call_id, number, moment)?
+                        .take_notice(notice)?;
+                }
+                Output::Send {
+                    key: Some(key),
+                    bytes,
+                    ..
+                } => self.take_send(key, bytes)?,
+                Output::Send { .. } | Output::Dropped { .. } => {}
             }
         }
         Ok(())
+    }
+
+    // A transaction sent this. A client transaction is one of the call that its request names; the
+    // event that began a server transaction told of what call it is.
+    fn take_send(&mut self, key: &SharedKey, bytes: &Text) -> Result<(), AllocError> {
+        if let Key::Server { .. } = key.get() {
+            return Ok(());
+        }
+        let values = header_values(self.alloc, bytes.as_slice(), CALL_ID)?;
+        match values.first() {
+            Some(call_id) => self.take_transaction(key.clone()?, call_id),
+            None => Ok(()),
+        }
+    }
+
+    // The transaction with this key is one of this call, or takes a datagram that names the call.
+    // It is linked with the first such call: what is held of one may come of events of the other.
+    fn take_transaction(&mut self, key: SharedKey, call_id: &Text) -> Result<(), AllocError> {
+        let first = match self.transactions.get(&key) {
+            Some(first) if first == call_id => return Ok(()),
+            Some(first) => first.clone()?,
+            None => {
+                self.transactions.insert(key, call_id.clone()?)?;
+                return Ok(());
+            }
+        };
+        self.link(&first, call_id)?;
+        self.link(call_id, &first)
+    }
+
+    fn link(&mut self, call_id: &Text, other: &Text) -> Result<(), AllocError> {
+        match self.calls.get_mut(call_id) {
+            Some(record) => record.link(other.clone()?),
+            None => Ok(()),
+        }
     }
 
     // The record of a call of which something comes at this moment.
@@ -109,9 +160,57 @@ impl CallRecords {
         Ok(record)
     }
 
-    /// Forgets the calls of which nothing is held at this moment any more.
-    pub(crate) fn forget(&mut self, moment: u64) {
-        self.calls.retain(|_, record| record.may_be_held(moment));
+    /// Forgets the calls of which nothing is held at this moment any more, unless they are linked
+    /// with one of which something may be.
+    ///
+    /// # Errors
+    ///
+    /// Memory ran out.
+    pub(crate) fn forget(&mut self, moment: u64) -> Result<(), AllocError> {
+        let needed = self.needed_calls(moment)?;
+        self.calls.retain(|call_id, _| needed.contains(call_id));
+        self.transactions
+            .retain(|_, first| needed.contains(&*first));
+        Ok(())
+    }
+
+    // The calls of which something may be held at this moment, and those that are linked with one
+    // of these, directly or by others.
+    fn needed_calls(&self, moment: u64) -> Result<BTreeSet<Text>, AllocError> {
+        let mut needed = BTreeSet::new(self.alloc);
+        let mut found = self.held_calls(moment)?;
+        for _ in 0..u64::MAX {
+            let Some(call_id) = found.pop() else {
+                break;
+            };
+            if needed.insert(call_id.clone()?)? {
+                self.add_linked(call_id, &mut found)?;
+            }
+        }
+        Ok(needed)
+    }
+
+    fn held_calls(&self, moment: u64) -> Result<Vec<&Text>, AllocError> {
+        let mut held = Vec::new(self.alloc);
+        for (call_id, record) in self.calls.iter() {
+            if record.may_be_held(moment) {
+                held.push(call_id)?;
+            }
+        }
+        Ok(held)
+    }
+
+    fn add_linked<'a>(
+        &'a self,
+        call_id: &Text,
+        found: &mut Vec<&'a Text>,
+    ) -> Result<(), AllocError> {
+        if let Some(record) = self.calls.get(call_id) {
+            for other in record.linked().iter() {
+                found.push(other)?;
+            }
+        }
+        Ok(())
     }
 
     /// The number of the first round with an event of a call that is recorded; none if no call is.
@@ -136,31 +235,13 @@ impl CallRecords {
         if let Event::Failed(_) = event {
             return Ok(true);
         }
-        let Some(call_id) = call_id_of(self.alloc, event)? else {
+        let Some(names) = EventNames::of(self.alloc, event)? else {
             return Ok(false);
         };
-        Ok(match self.calls.get(&call_id) {
+        Ok(match self.calls.get(&names.call_id) {
             Some(record) => record.first_round() <= number,
             None => false,
         })
-    }
-}
-
-// The Call-ID of an event: of a datagram the first one in its head.
-fn call_id_of(alloc: Global, event: &Event) -> Result<Option<Text>, AllocError> {
-    match event {
-        Event::Datagram { bytes, .. } => {
-            let values = header_values(alloc, bytes.as_slice(), CALL_ID)?;
-            match values.first() {
-                Some(call_id) => Ok(Some(call_id.clone()?)),
-                None => Ok(None),
-            }
-        }
-        Event::Command(command) => {
-            let call_id = command.call_id();
-            Ok(Some(Text::copy_of(alloc, call_id.as_slice())?))
-        }
-        Event::Failed(_) => Ok(None),
     }
 }
 

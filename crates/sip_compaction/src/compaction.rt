@@ -21,11 +21,12 @@ struct Choice {
     last: u64,
 }
 
-/// Reads a journal twice, from two readers, and writes a shorter one. It begins with the first
-/// round of a call of which something may be held at the end, and keeps the events of such calls,
-/// and the last round as a whole. So it should leave an agent that holds the same, unless two calls
-/// share a transaction: `leaves_the_same` tells. It holds in memory what the agent holds, and one
-/// round.
+/// Reads a journal twice, from two readers, and writes a shorter one. It keeps the events of each
+/// call of which something may be held at the end, and of those that are linked with it, directly
+/// or by others: two are linked if a transaction of one took a datagram that names the other one.
+/// It begins with the first round of these calls, and has the last round as a whole. So it should
+/// leave an agent that holds the same: `leaves_the_same` tells. It holds in memory what the agent
+/// holds, one round, and the keys of the transactions of the calls that it keeps.
 ///
 /// # Errors
 ///
@@ -105,7 +106,7 @@ fn choose<R: CountedRead>(alloc: Global, reader: &mut R) -> Result<Choice, Strea
         last = number;
         moment = round.moment;
     }
-    records.forget(moment);
+    records.forget(moment)?;
     let first = match records.first_round() {
         Some(first) if first < last => first,
         _ => last,

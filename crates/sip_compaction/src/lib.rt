@@ -7,6 +7,7 @@ mod call_records;
 mod compacted;
 mod compaction;
 mod equivalence;
+mod event_names;
 mod journal_rounds;
 mod kept_events;
 mod one_cut;
