@@ -2,6 +2,8 @@
 //! goes on. One that lacks rounds loses its name, so that no process goes on from it: it would give
 //! the same tags again.
 
+ghost use Rattle.std.specs.Prelude.{◌≤◌, IfOk, length};
+
 use crate::host::{Host, Journals, PRIVATE};
 use crate::shortening::{Shortening, Shorter, Task};
 use crate::words::JournalWords;
@@ -234,7 +236,9 @@ impl<T: Journals> JournalFile<T> {
     }
 
     // Appends to the file, if it is as this process left it.
-    fn append(&mut self, bytes: &[u8]) -> io::Result<usize> {
+    fn append(&mut self, bytes: &[u8]) -> io::Result<usize>
+        ensures bound { IfOk result (λ count. count ≤ length bytes.now) }
+    {
         if !self.is_whole() {
             return Err(io::Error::other("moved, removed or changed by another process"));
         }
