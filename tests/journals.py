@@ -1,15 +1,18 @@
 """Journals: a run goes on from its rounds, ends if it can't write them, and makes them shorter."""
 
+import os
 import re
 import resource
+import shutil
 import signal
 import tempfile
+import time
 from collections import Counter
 from pathlib import Path
 
 from agents import plain
 from loopback import ANY, Peer, bound, address_of, free_address, tag_of
-from process import Running, ran
+from process import Running, ran, redirected, tries
 from refused import refusing
 from register import expect, test
 from stored_cases import FOLDERS, read
@@ -18,6 +21,8 @@ from talks import lines_after, replayed
 # A script that leaves a write above the limit of a file to the program, which it would end.
 LIMITED = ["sh", "-c", "trap '' XFSZ; exec \"$@\"", "sh"]
 TOO_LARGE = "File too large (os error 27)"
+CHANGED = ": moved, removed or changed by another process\n"
+REFUSED = "Input/output error (os error 5)"
 MISSING = "No such file or directory (os error 2)"
 # The tests in code make it shorter, too: nine calls are over, and three are up.
 STORED = FOLDERS[1] / "compaction/journal"
@@ -60,7 +65,8 @@ def an_agent_goes_on_from_its_journal():
 
 @test
 def what_is_not_in_the_journal_is_not_sent():
-    """A round that can't be written ends the run; with `--journal-may-fail` only the journal."""
+    """A round that can't be written ends the run; with `--journal-may-fail` only the journal, which
+    loses its name."""
     told = f"ua: --journal: {TOO_LARGE}\nua: journal failed\n"
     lost = f"ua: record failed\nua: --record: {TOO_LARGE}\n"
     for words, ends in [([], True), (["--journal-may-fail"], False)]:
@@ -75,8 +81,102 @@ def what_is_not_in_the_journal_is_not_sent():
                 ended = agent.ended()
                 if ends:
                     peer.has_nothing()
-        expect(words, (4 if ends else 0, "", told if ends else lost),
-               (ended.status, ended.output, ended.errors.partition("\n")[2]))
+            renamed = "" if ends else set_aside(room.journal)
+            expect(words, (4 if ends else 0, "", renamed + (told if ends else lost)),
+                   (ended.status, ended.output, ended.errors.partition("\n")[2]))
+            expect(words, ends, room.journal.exists())
+
+
+def set_aside(journal):
+    """What is said of a journal that lacks rounds."""
+    return f"ua: --journal {journal}: it lacks rounds: now {journal}.failed\n"
+
+
+@test
+def a_journal_that_lacks_rounds_is_not_resumed():
+    """The next process begins anew, and so gives other tags."""
+    with Room() as room:
+        words = ["listen", "--local", free_address(), "--journal", room.journal,
+                 "--journal-may-fail"]
+        with Peer(words[2]) as peer:
+            with Running(*words, script=LIMITED) as listener:
+                listener.ready()
+                peer.ask("INVITE", "c1")
+                answered(peer, "c1")
+                listener.output.next("notice c1 ack ")
+                written = read(room.journal)
+                limit(listener, len(written) + 10)
+                peer.ask("INVITE", "c2")
+                tag = answered(peer, "c2")
+                listener.errors.next(set_aside(room.journal).strip())
+            expect("FILE", False, room.journal.exists())
+            expect("FILE.failed", written, read(failed(room.journal))[: len(written)])
+            with Running(*words) as listener:
+                listener.errors.next(f"ua: --journal {room.journal}: {room.journal}.failed lacks "
+                                     "rounds, and isn't resumed\n")
+                listener.ready()
+                peer.ask("INVITE", "c3")
+                expect("another tag", False, answered(peer, "c3") == tag)
+                listener.end_input()
+                expect("resumed", False, "resumed" in listener.ended().output)
+        expect("another seed", False, seed_of(written) == seed_of(read(room.journal)))
+
+
+def failed(journal):
+    return journal.with_name("journal.failed")
+
+
+def seed_of(session):
+    return lines_after("seed ", session)[0]
+
+
+def replace(journal):
+    shutil.copy(journal, journal.with_name("other"))
+    os.replace(journal.with_name("other"), journal)
+
+
+def append(journal):
+    with journal.open("a") as file:
+        file.write("round 9\n")
+
+
+@test
+def a_journal_that_is_changed_meanwhile_has_failed():
+    """A journal that was cut loses its name also without `--journal-may-fail`."""
+    ways = [(Path.unlink, False), (replace, True), (append, True),
+            (lambda journal: os.truncate(journal, 200), False)]
+    for change, stays in ways:
+        for words, ends in [([], True), (["--journal-may-fail"], False)]:
+            with Room() as room:
+                words = ["listen", "--local", ANY, "--journal", room.journal, *words]
+                with Running(*words) as listener, Peer(listener.ready()) as peer:
+                    peer.ask("OPTIONS", "c1")
+                    peer.receive("SIP/2.0 200 ")
+                    change(room.journal)
+                    peer.ask("OPTIONS", "c2")
+                    if not ends:
+                        peer.receive("SIP/2.0 200 ", "Call-ID: c2\r\n")
+                        listener.end_input()
+                    ended = listener.ended()
+                    if ends:
+                        peer.has_nothing()
+                expect(change, (4 if ends else 0, True), (ended.status, CHANGED in ended.errors))
+                expect(change, ends and stays, room.journal.exists())
+
+
+@test
+def the_journal_of_another_process_keeps_its_name():
+    with Room() as room:
+        words = ["listen", "--local", ANY, "--journal", room.journal, "--journal-may-fail"]
+        with Running(*words) as first, Peer(first.ready()) as peer:
+            room.journal.unlink()
+            with Running(*words) as second:
+                second.ready()
+                peer.ask("OPTIONS", "c1")
+                peer.receive("SIP/2.0 200 ")
+                first.errors.next(f"ua: --journal {room.journal}: it lacks rounds, but isn't "
+                                  "renamed: ")
+                expect("its journal", True, room.journal.exists())
 
 
 def limit(run, most):
@@ -217,9 +317,46 @@ def a_journal_of_another_process_or_address():
 
 @test
 def a_journal_that_cannot_be_opened():
-    ended = ran("agent", "--local", ANY, "--journal", "/none/journal")
+    """That is the end; with `--journal-may-fail` there is no journal."""
+    words = ["agent", "--local", ANY, "--linger", "0", "--journal", "/none/journal"]
+    ended = ran(*words)
     told = f"ua: journal failed\nua: --journal /none/journal: {MISSING}\n"
     expect("the end", (4, "", told), ended)
+    ended = ran(*words, "--journal-may-fail")
+    told = f"ua: --journal /none/journal: {MISSING}: there is no journal\n"
+    expect("without it", (0, "", told), (ended.status, ended.output, without_ready(ended.errors)))
+
+
+@test
+def a_journal_of_another_call_is_refused():
+    """It would never be made."""
+    with Room() as room, bound() as silent, bound() as other:
+        asked = {"--to": address_of(silent), "--uri": "sip:b@127.0.0.1", "--call-id": "c1"}
+        words = ["call", "--local", free_address(), "--journal", room.journal, "--turns", "20"]
+        expect("its call", 0, ran(*words, *options(asked)).status)
+        written = read(room.journal)
+        for option, word in [("--to", address_of(other)), ("--uri", "sip:c@127.0.0.1"),
+                             ("--call-id", "c2")]:
+            ended = ran(*words, *options({**asked, option: word}))
+            told = f"ua: bad argument\nua: {option} {word}: not that of the journal\n"
+            expect(option, (2, "", told), ended)
+        expect("the file", written, read(room.journal))
+        ended = ran(*words, *options(asked))
+        expect("its call again", (0, "resumed "), (ended.status, ended.output[:8]))
+        begun = written.index("\nround ") + 1
+        room.journal.write_text(written[:begun] + "round 1\ndatagram 127.0.0.1:9 x\n")
+        ended = ran(*words, *options(asked))
+        told = f"ua: bad argument\nua: --journal {room.journal}: not of a call\n"
+        expect("of no call", (2, "", told), ended)
+        for length in [begun, written.index("\ninvite ") + 20]:
+            room.journal.write_bytes(written[:length].encode())
+            ended = ran(*words, *options({**asked, "--call-id": "c2"}))
+            expect("without a round", (0, True),
+                   (ended.status, "\ninvite c2 " in read(room.journal)))
+
+
+def options(words):
+    return [part for pair in words.items() for part in pair]
 
 
 @test
@@ -375,3 +512,81 @@ def a_journal_that_is_torn_is_not_made_short():
         ended = ran("compact", "--journal", short, "--into", short)
         told = f"ua: journal failed\nua: --journal {short}: {MISSING}\n"
         expect("of no file", (4, "", told), ended)
+
+
+@test
+def a_short_journal_that_has_other_permissions_is_removed():
+    with Room() as room:
+        room.journal.write_bytes(STORED.read_bytes())
+        short = Path(room.folder.name, "short")
+        ended = ran("compact", "--journal", room.journal, "--into", short,
+                    script=refusing("fchmod"))
+        told = f"ua: output failed\nua: --into {short}: {REFUSED}\n"
+        expect("the end", (4, "", told), ended)
+        expect("a file", False, short.exists())
+
+
+def write_long(journal, local):
+    """A journal that is long enough to be made shorter."""
+    rounds = [f"round {number}\ndatagram 127.0.0.1:9 {60_000 * 'x'}\n" for number in range(300)]
+    head = f"sip-session 1\nlocal {local}\nseed {64 * '0'}\nfirst 0\n"
+    journal.write_text(head + "".join(rounds))
+
+
+@test
+def a_shorter_journal_that_cannot_be_made():
+    """This is said, and the run goes on in the long one."""
+    for script, told in [([], "File exists (os error 17)"), (refusing("fdatasync"), REFUSED)]:
+        with Room() as room:
+            words = ["listen", "--local", free_address(), "--journal", room.journal]
+            write_long(room.journal, words[2])
+            if not script:
+                shorter(room.journal).mkdir()
+            with Running(*words, script=script) as listener, Peer(words[2]) as peer:
+                listener.ready()
+                for number in tries("a word of it"):
+                    peer.ask("OPTIONS", f"c{number}")
+                    peer.receive("SIP/2.0 200 ", f"Call-ID: c{number}\r\n")
+                    if len(listener.errors.lines) > 1:
+                        break
+                line = f"ua: --journal {room.journal}: not made shorter: {told}\n"
+                expect("what is said", line, listener.errors.lines[1])
+                expect("a shorter one", False, shorter(room.journal).is_file())
+                expect("the last round", True, f"Call-ID: c{number}\\r\\n" in read(room.journal))
+                listener.end_input()
+                expect("status", 0, listener.ended().status)
+
+
+def shorter(journal):
+    return journal.with_name("journal.being-compacted")
+
+
+@test
+def a_journal_that_failed_does_not_come_back_as_a_shorter_one():
+    with Room() as room:
+        words = ["listen", "--local", free_address(), "--journal", room.journal,
+                 "--journal-may-fail"]
+        write_long(room.journal, words[2])
+        with Running(*words) as listener, Peer(words[2]) as peer:
+            listener.ready()
+            peer.ask("OPTIONS", "c1")
+            peer.receive("SIP/2.0 200 ")
+            for _ in tries("a shorter journal"):
+                if shorter(room.journal).exists():
+                    break
+            room.journal.rename(room.journal.with_name("moved"))
+            for call in ["c2", "c3"]:
+                peer.ask("OPTIONS", call)
+                peer.receive("SIP/2.0 200 ", f"Call-ID: {call}\r\n")
+                expect("a shorter one", False, shorter(room.journal).exists())
+                expect("the journal", False, room.journal.exists())
+                time.sleep(3)
+            listener.end_input()
+            expect("status", 0, listener.ended().status)
+
+
+@test
+def a_closed_input_is_an_empty_one():
+    """Its descriptor isn't that of the socket, from which commands would be read."""
+    ended = ran("agent", "--local", ANY, "--linger", "0", script=redirected("<&-"))
+    expect("the end", (0, "", ""), (ended.status, ended.output, without_ready(ended.errors)))

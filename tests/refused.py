@@ -10,7 +10,7 @@ import sys
 
 from register import Skipped
 
-CALLS = {"sendto": 44, "recvfrom": 45, "fdatasync": 75, "getrandom": 318}
+CALLS = {"sendto": 44, "recvfrom": 45, "fdatasync": 75, "fchmod": 91, "getrandom": 318}
 # From linux/prctl.h, linux/seccomp.h, linux/audit.h and linux/bpf_common.h.
 PR_SET_SECCOMP, SECCOMP_MODE_FILTER, PR_SET_NO_NEW_PRIVS = 22, 2, 38
 REFUSED, ALLOWED = 0x0005_0000 | errno.EIO, 0x7FFF_0000

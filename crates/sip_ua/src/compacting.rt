@@ -99,23 +99,20 @@ fn created<'a, T: Journals>(
 ) -> Result<File, Failure<'a>> {
     let mut options = OpenOptions::new();
     options.write(true).create_new(true).mode(PRIVATE);
-    let made = match rt.open_journal(&options, words.into) {
-        Ok(file) => with_permissions(file, journal),
-        Err(error) => Err(error),
+    let file = match rt.open_journal(&options, words.into) {
+        Ok(file) => file,
+        Err(error) => return Err(bad_file(UaFault::Output, "--into", words.into, error)),
     };
-    match made {
-        Ok(file) => Ok(file),
-        Err(error) => Err(bad_file(UaFault::Output, "--into", words.into, error)),
-    }
-}
-
-// The file, with the permissions of another one: a journal has secrets.
-fn with_permissions(file: File, other: &File) -> io::Result<File> {
-    file.set_permissions(other.metadata()?.permissions())?;
+    written(rt, give_permissions(&file, journal), words)?;
     Ok(file)
 }
 
-// How the writing of the new file ended. A part of a journal doesn't stay.
+// Gives the file the permissions of the other one: a journal has secrets.
+fn give_permissions(file: &File, other: &File) -> io::Result<()> {
+    file.set_permissions(other.metadata()?.permissions())
+}
+
+// What comes of the new file, if this is how it was made or written. A part of it doesn't stay.
 fn written<'a, T: Files>(
     rt: &T,
     end: io::Result<()>,

@@ -1,7 +1,7 @@
 //! The system that the program runs on.
 
-use std::fs::{self, File, OpenFile, OpenOptions};
-use std::io::{self, BufRead, Input, IsTerminal, Stdout, Write};
+use std::fs::{self, File, Metadata, OpenFile, OpenOptions};
+use std::io::{self, BufRead, Eprint, Input, IsTerminal, Stdout, Write};
 use std::net::Net;
 use std::os::unix::fs::MetadataExt;
 use std::random::RandomSource;
@@ -11,8 +11,8 @@ use std::time::Clock;
 /// The permissions of a file that this user alone may read: a journal and a record have secrets.
 pub(crate) const PRIVATE: u32 = 0o600;
 
-/// Files, also those of journals.
-pub trait Journals: Files + Copy {
+/// Files, also those of journals, and standard error, where it is said what becomes of a journal.
+pub trait Journals: Files + Eprint + Copy {
     /// Opens the file of a journal.
     ///
     /// # Errors
@@ -26,9 +26,17 @@ pub trait Journals: Files + Copy {
         if file.try_lock().is_err() {
             return false;
         }
-        match (file.metadata(), fs::metadata(self, path)) {
-            (Ok(own), Ok(named)) => own.dev() == named.dev() && own.ino() == named.ino(),
-            _ => false,
+        match file.metadata() {
+            Ok(own) => self.is_at(&own, path),
+            Err(_) => false,
+        }
+    }
+
+    /// Whether the file with this path is the one with these metadata.
+    fn is_at(&self, own: &Metadata, path: &str) -> bool {
+        match fs::metadata(self, path) {
+            Ok(named) => own.dev() == named.dev() && own.ino() == named.ino(),
+            Err(_) => false,
         }
     }
 }

@@ -1,8 +1,12 @@
 //! The file of a journal. Whenever it has become long, a shorter one takes its place while the run
-//! goes on.
+//! goes on. One that lacks rounds loses its name, so that no process goes on from it: it would give
+//! the same tags again.
+
+ghost use Rattle.std.specs.Prelude.{◌≤◌, IfOk, length};
 
 use crate::host::{Host, Journals, PRIVATE};
 use crate::shortening::{Shortening, Shorter, Task};
+use crate::words::JournalWords;
 use sip_udp::RecordFile;
 use std::alloc::{AllocError, Global};
 use std::fs::{self, File, OpenFile, OpenOptions};
@@ -27,7 +31,11 @@ pub(crate) struct JournalFile<T> {
     // Without symbolic links, since another file gets this name.
     path: String,
     file: File,
+    // Another one, as a device, isn't watched, and keeps its name.
+    is_regular: bool,
     is_synced: bool,
+    // Whether the run goes on if a write fails.
+    may_fail: bool,
     // How many bytes it has, and with how many it is made shorter.
     len: u64,
     limit: u64,
@@ -39,7 +47,8 @@ pub(crate) struct JournalFile<T> {
 impl<T: Threads + Host> JournalFile<T> {
     /// Opens the journal with this path, or a new one. None if another process has it. It may wait
     /// for the disk at each flush. What a process that died has left of a shorter one is removed.
-    /// If it isn't a regular file, or the system has no more threads, it isn't made shorter.
+    /// If it isn't a regular file, or the system has no more threads, it isn't made shorter. If one
+    /// that failed is left, this is said.
     ///
     /// # Errors
     ///
@@ -47,9 +56,13 @@ impl<T: Threads + Host> JournalFile<T> {
     pub(crate) fn open(
         rt: &T,
         alloc: Global,
-        path: &str,
-        is_synced: bool,
+        words: JournalWords<'_>,
     ) -> io::Result<Option<JournalFile<T>>> {
+        let JournalWords {
+            path,
+            is_synced,
+            may_fail,
+        } = words;
         let file = rt.open_journal(&appended(), path)?;
         if !rt.has_alone(&file, path) {
             return Ok(None);
@@ -57,7 +70,9 @@ impl<T: Threads + Host> JournalFile<T> {
         let metadata = file.metadata()?;
         let path = rt.canonicalize(alloc, path)?.into_string();
         remove_shorter(rt, alloc, path.as_str());
-        let shortening = if metadata.is_file() {
+        tell_failed(rt, alloc, path.as_str());
+        let is_regular = metadata.is_file();
+        let shortening = if is_regular {
             Shortening::start(rt, alloc).ok()
         } else {
             None
@@ -67,7 +82,9 @@ impl<T: Threads + Host> JournalFile<T> {
             alloc,
             path,
             file,
+            is_regular,
             is_synced,
+            may_fail,
             len: metadata.len(),
             limit: LONG,
             shortening,
@@ -87,15 +104,16 @@ impl<T: Journals> JournalFile<T> {
     fn keep_short(&mut self) -> io::Result<()> {
         if self.is_being_shortened {
             return match self.end() {
-                Some(shorter) => self.go_on_in(shorter),
+                Some(end) => self.go_on_in(end),
                 None => Ok(()),
             };
         }
         if self.shortening.is_some() && self.len >= self.limit {
             // If no shorter one comes of it, it is tried again with twice as many bytes.
             self.limit = self.len.saturating_mul(2);
-            if let Ok(task) = self.task() {
-                self.begin(task);
+            match self.task() {
+                Ok(task) => self.begin(task),
+                Err(error) => self.stay_long(&error),
             }
         }
         Ok(())
@@ -108,10 +126,10 @@ impl<T: Journals> JournalFile<T> {
     }
 
     // What came of the thread's work, as soon as that is over.
-    fn end(&mut self) -> Option<Option<Shorter>> {
+    fn end(&mut self) -> Option<io::Result<Option<Shorter>>> {
         let end = match &mut self.shortening {
             Some(shortening) => shortening.end(),
-            None => Some(None),
+            None => Some(Ok(None)),
         };
         self.is_being_shortened = end.is_none();
         end
@@ -165,13 +183,20 @@ impl<T: Journals> JournalFile<T> {
     }
 
     // Goes on in the shorter journal, if there is one and it can take this one's place.
-    fn go_on_in(&mut self, shorter: Option<Shorter>) -> io::Result<()> {
-        let Some(mut shorter) = shorter else {
-            remove_shorter(&self.rt, self.alloc, &self.path);
-            return Ok(());
+    fn go_on_in(&mut self, end: io::Result<Option<Shorter>>) -> io::Result<()> {
+        let mut shorter = match end {
+            Ok(Some(shorter)) => shorter,
+            Ok(None) => {
+                remove_shorter(&self.rt, self.alloc, &self.path);
+                return Ok(());
+            }
+            Err(error) => {
+                self.stay_long(&error);
+                return Ok(());
+            }
         };
-        if self.replace_by(&mut shorter).is_err() {
-            remove_shorter(&self.rt, self.alloc, &self.path);
+        if let Err(error) = self.replace_by(&mut shorter) {
+            self.stay_long(&error);
             return Ok(());
         }
         let behind = self.len.saturating_sub(shorter.front);
@@ -179,6 +204,13 @@ impl<T: Journals> JournalFile<T> {
         self.limit = shorter.compact.saturating_mul(TIMES).max(LONG);
         self.file = shorter.file;
         self.sync_name()
+    }
+
+    // Says why the journal isn't made shorter, and removes what there is of a shorter one.
+    fn stay_long(&self, why: &io::Error) {
+        let path = &self.path;
+        let _ = eprintln!(self.rt; "ua: --journal {path}: not made shorter: {why}");
+        remove_shorter(&self.rt, self.alloc, path);
     }
 
     // Writes what stands behind the front of the journal to the file of the shorter one, and gives
@@ -202,21 +234,100 @@ impl<T: Journals> JournalFile<T> {
         }
         Ok(())
     }
-}
 
-impl<T: Journals + Drop> Write for JournalFile<T> {
-    fn write(&mut self, bytes: &[u8]) -> io::Result<usize> {
+    // Appends to the file, if it is as this process left it.
+    fn append(&mut self, bytes: &[u8]) -> io::Result<usize>
+        ensures bound { IfOk result (λ count. count ≤ length bytes.now) }
+    {
+        if !self.is_whole() {
+            return Err(io::Error::other("moved, removed or changed by another process"));
+        }
         let count = self.file.write(bytes)?;
         self.len = self.len.saturating_add(count as u64);
         Ok(count)
     }
 
-    fn flush(&mut self) -> io::Result<()> {
+    // Whether the file has its name, and the length that this process gave it.
+    fn is_whole(&self) -> bool {
+        if !self.is_regular {
+            return true;
+        }
+        match self.file.metadata() {
+            Ok(own) => own.len() == self.len && self.rt.is_at(&own, self.path.as_str()),
+            Err(_) => false,
+        }
+    }
+
+    // What was written is on the disk now, and perhaps in a shorter journal.
+    fn settle(&mut self) -> io::Result<()> {
         self.file.flush()?;
         if self.is_synced {
             self.file.sync_data()?;
         }
         self.keep_short()
+    }
+
+    // Leaves a journal to which a write failed, perhaps to be tried again. If the run goes on, or
+    // if the file was cut, it lacks rounds. One that nothing was written to can be resumed.
+    fn fail(&self, error: io::Error) -> io::Error {
+        if error.kind() == ErrorKind::Interrupted {
+            return error;
+        }
+        if self.is_being_shortened {
+            remove_shorter(&self.rt, self.alloc, &self.path);
+        }
+        let lacks_rounds = self.may_fail || self.is_cut();
+        if self.is_regular && self.len > 0 && lacks_rounds {
+            self.set_aside();
+        }
+        error
+    }
+
+    fn is_cut(&self) -> bool {
+        match self.file.metadata() {
+            Ok(own) => own.len() < self.len,
+            Err(_) => false,
+        }
+    }
+
+    // Takes its name from the journal, and says so.
+    fn set_aside(&self) {
+        let path = &self.path;
+        let _ = match self.rename() {
+            Ok(()) => eprintln!(self.rt;
+                "ua: --journal {path}: it lacks rounds: now {path}.failed"
+            ),
+            Err(error) => eprintln!(self.rt;
+                "ua: --journal {path}: it lacks rounds, but isn't renamed: {error}"
+            ),
+        };
+    }
+
+    // Gives the journal the name of one that failed, or the file that has its name now, if no
+    // other process has that.
+    fn rename(&self) -> io::Result<()> {
+        if self.check_place().is_err() && !self.rt.has_alone(&self.reader()?, &self.path) {
+            return Err(io::Error::from(ErrorKind::WouldBlock));
+        }
+        let failed = failed_path(self.alloc, &self.path)?;
+        fs::rename(&self.rt, self.path.as_str(), failed.as_str())?;
+        self.sync_name()
+    }
+}
+
+impl<T: Journals + Drop> Write for JournalFile<T> {
+    fn write(&mut self, bytes: &[u8]) -> io::Result<usize> {
+        match self.append(bytes) {
+            Ok(count) => Ok(count),
+            Err(error) => Err(self.fail(error)),
+        }
+    }
+
+    fn flush(&mut self) -> io::Result<()> {
+        match self.settle() {
+            Ok(()) => Ok(()),
+            Err(error) => Err(self.fail(error)),
+        }
     }
 }
 
@@ -260,6 +371,21 @@ fn remove_shorter<T: Files>(rt: &T, alloc: Global, path: &str) {
 // The path of a shorter journal than the one with this path, until it has the name of that.
 fn shorter_path(alloc: Global, path: &str) -> Result<String, AllocError> {
     format!(in alloc; "{path}.being-compacted")
+}
+
+// Says that a journal with this path has failed before, if that one is still there.
+fn tell_failed<T: Journals>(rt: &T, alloc: Global, path: &str) {
+    let Ok(failed) = failed_path(alloc, path) else {
+        return;
+    };
+    if let Ok(true) = fs::exists(rt, failed.as_str()) {
+        let _ = eprintln!(rt; "ua: --journal {path}: {failed} lacks rounds, and isn't resumed");
+    }
+}
+
+// The path that a journal with this path has once it has failed.
+fn failed_path(alloc: Global, path: &str) -> Result<String, AllocError> {
+    format!(in alloc; "{path}.failed")
 }
 
 // The folder of a file with this path, which begins with a slash.

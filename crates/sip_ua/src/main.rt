@@ -6,6 +6,7 @@ mod data_file;
 mod failure;
 mod host;
 mod journal_file;
+mod journalled_call;
 mod noting;
 mod options;
 mod program;

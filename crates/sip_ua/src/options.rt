@@ -444,7 +444,8 @@ const SYNC: OptionRow = OptionRow {
 const JOURNAL_MAY_FAIL: OptionRow = OptionRow {
     name: "journal-may-fail",
     needs: &["journal"],
-    help: "If --journal can't be written, go on without it; by default that is the end",
+    help: "If --journal can't be opened or written, go on without it; by default that is the end. \
+        A FILE that lacks rounds is renamed to FILE.failed, and isn't run again",
     ..FLAG
 };
 

@@ -5,6 +5,7 @@ ghost use denote.Param.Send.{IsSync};
 use rtrb::{Consumer, Producer, RingBuffer};
 use sip_compaction::compact;
 use sip_message::Spread;
+use sip_stream::StreamFault;
 use sip_udp::Bell;
 use std::alloc::Global;
 use std::fs::{File, OpenFile};
@@ -47,7 +48,7 @@ pub(crate) struct Shorter {
 #[derive(Drop)]
 pub(crate) struct Shortening {
     tasks: Producer<Task>,
-    ends: Consumer<Option<Shorter>>,
+    ends: Consumer<io::Result<Option<Shorter>>>,
     bell: Arc<Bell>,
 }
 
@@ -84,9 +85,9 @@ impl Shortening {
         is_taken
     }
 
-    /// What came of the task: `Some(None)` if there is no journal that is at most half as long, or
-    /// if it can't be written. None as long as the thread is at work.
-    pub(crate) fn end(&mut self) -> Option<Option<Shorter>> {
+    /// What came of the task: a shorter journal; or none, if there is none that is at most half as
+    /// long; or why it can't be made. None as long as the thread is at work.
+    pub(crate) fn end(&mut self) -> Option<io::Result<Option<Shorter>>> {
         self.ends.pop().ok()
     }
 }
@@ -106,7 +107,7 @@ fn serve<T: Threads + Sync>(
     rt: &T,
     alloc: Global,
     tasks: &mut Consumer<Task>,
-    ends: &mut Producer<Option<Shorter>>,
+    ends: &mut Producer<io::Result<Option<Shorter>>>,
     bell: &Bell,
 ) {
     for _ in 0..u64::MAX {
@@ -125,7 +126,7 @@ fn serve<T: Threads + Sync>(
 }
 
 // Writes a shorter journal, and behind it what the journal has by then.
-fn shortened<T: Threads + Sync>(rt: &T, alloc: Global, task: Task) -> Option<Shorter> {
+fn shortened<T: Threads + Sync>(rt: &T, alloc: Global, task: Task) -> io::Result<Option<Shorter>> {
     let Task {
         journal,
         again,
@@ -134,24 +135,28 @@ fn shortened<T: Threads + Sync>(rt: &T, alloc: Global, task: Task) -> Option<Sho
         mut file,
     } = task;
     let mut rest = once_more.take(front);
-    let text = compact_text(
+    let found = compact_text(
         rt,
         alloc,
         &mut journal.take(front),
         &mut again.take(front),
         &mut rest,
-    )?;
+    );
+    let text = match found {
+        Ok(Some(text)) if text.len() as u64 <= front / 2 => text,
+        Ok(_) => return Ok(None),
+        Err(error) => return Err(error),
+    };
     let compact = text.len() as u64;
-    if compact > front / 2 {
-        return None;
+    match written(&text, &mut rest, &mut file) {
+        Ok(copied) => Ok(Some(Shorter {
+            file,
+            len: compact.saturating_add(copied),
+            compact,
+            front: front.saturating_add(copied),
+        })),
+        Err(error) => Err(error),
     }
-    let copied = written(&text, &mut rest, &mut file).ok()?;
-    Some(Shorter {
-        file,
-        len: compact.checked_add(copied)?,
-        compact,
-        front: front.checked_add(copied)?,
-    })
 }
 
 // A shorter journal than that of three readers, if one was found.
@@ -161,10 +166,12 @@ fn compact_text<T: Threads + Sync, R: Read>(
     journal: &mut R,
     again: &mut R,
     once_more: &mut R,
-) -> Option<Vec<u8>> {
+) -> io::Result<Option<Vec<u8>>> {
     match compact(rt, alloc, journal, again, once_more, 1, 1, Spread) {
-        Ok(Some(compacted)) => Some(compacted.text),
-        _ => None,
+        Ok(Some(compacted)) => Ok(Some(compacted.text)),
+        Ok(None) => Ok(None),
+        Err(StreamFault::NoMemory) => Err(io::Error::from(ErrorKind::OutOfMemory)),
+        Err(_) => Err(io::Error::from(ErrorKind::InvalidData)),
     }
 }
 

@@ -10,6 +10,7 @@ use crate::data_file::DataFile;
 use crate::failure::{Cause, Failure};
 use crate::host::{Host, Journals, PRIVATE};
 use crate::journal_file::JournalFile;
+use crate::journalled_call::check_call;
 use crate::receive_buffer::ask_for_room;
 use crate::talk_fault::TalkFault;
 use crate::words::{
@@ -23,7 +24,7 @@ use sip_udp::{
     UaFault, Written, agent, call_from, listen_at,
 };
 use std::alloc::{AllocError, Global};
-use std::fs::{self, OpenFile, OpenOptions};
+use std::fs::{self, File, OpenFile, OpenOptions};
 use std::io::{self, Write};
 use std::net::{Ipv4Addr, Net, SocketAddrV4, UdpSocket};
 use std::os::unix::fs::OpenOptionsExt;
@@ -39,6 +40,7 @@ pub(crate) fn talk_by<'a, T: Threads + Host, E: Write>(
     words: Option<TalkWords<'a>>,
     errors: &mut E,
 ) -> Result<(), Failure<'a>> {
+    let _streams = [null_file(rt), null_file(rt), null_file(rt)];
     match words {
         Some(TalkWords::Listen(words)) => listen_by(rt, alloc, words, errors),
         Some(TalkWords::Call(words)) => call_by(rt, alloc, words, errors),
@@ -46,6 +48,14 @@ pub(crate) fn talk_by<'a, T: Threads + Host, E: Write>(
         Some(TalkWords::Compact(words)) => compact_by(rt, alloc, words, errors),
         None => Err(Failure::unknown(TalkFault::BadArgument)),
     }
+}
+
+// An empty file. Three of them have the descriptors of those standard streams that are closed: the
+// socket would get one, and be read as the pipe of commands.
+fn null_file<T: Journals>(rt: &T) -> Option<File> {
+    let mut options = OpenOptions::new();
+    options.read(true);
+    rt.open_journal(&options, "/dev/null").ok()
 }
 
 fn listen_by<'a, T: Threads + Host, E: Write>(
@@ -69,6 +79,9 @@ fn call_by<'a, T: Threads + Host, E: Write>(
 ) -> Result<(), Failure<'a>> {
     let plan = call_plan(rt, alloc, words)?;
     let endpoint = endpoint_of(rt, alloc, words.endpoint)?;
+    if endpoint.past.is_some() {
+        check_call(rt, alloc, words, &plan)?;
+    }
     let mut notices = notice_writer(rt, alloc)?;
     let end = call_from(rt, alloc, endpoint, plan, &mut notices, errors);
     ended(end, notices.finish(rt), errors)
@@ -386,12 +399,16 @@ fn run_of<'a, T: Threads + Host>(
 ) -> Result<Run<T>, Failure<'a>> {
     match words.journal {
         Some(journal) => journal_run(rt, alloc, journal, words, config),
-        None => Ok(Run {
-            config,
-            record: record_at(rt, words.record)?,
-            past: None,
-            keeping: Keeping::MayFail,
-        }),
+        None => Ok(run_without_journal(config, record_at(rt, words.record)?)),
+    }
+}
+
+fn run_without_journal<T: Journals>(config: Config, record: Option<DataFile<T>>) -> Run<T> {
+    Run {
+        config,
+        record,
+        past: None,
+        keeping: Keeping::MayFail,
     }
 }
 
@@ -404,7 +421,9 @@ fn journal_run<'a, T: Threads + Host>(
     words: EndpointWords<'a>,
     config: Config,
 ) -> Result<Run<T>, Failure<'a>> {
-    let mut file = journal_at(rt, alloc, journal)?;
+    let Some(mut file) = journal_at(rt, alloc, journal)? else {
+        return Ok(run_without_journal(config, None));
+    };
     let mut past = Past::new(alloc);
     let config = config_in(&mut file, &mut past, journal, words, config)?;
     if let Talker::Call = words.talker {
@@ -451,16 +470,20 @@ fn config_in<'a, T: Threads + Host>(
     }
 }
 
-// The file of a journal, which no other process has.
+// The file of a journal, which no other process has. If it may fail, there may be none.
 fn journal_at<'a, T: Threads + Host>(
     rt: &T,
     alloc: Global,
     words: JournalWords<'a>,
-) -> Result<JournalFile<T>, Failure<'a>> {
+) -> Result<Option<JournalFile<T>>, Failure<'a>> {
     let path = words.path;
-    match JournalFile::open(rt, alloc, path, words.is_synced) {
-        Ok(Some(journal)) => Ok(journal),
+    match JournalFile::open(rt, alloc, words) {
+        Ok(Some(journal)) => Ok(Some(journal)),
         Ok(None) => Err(bad_word("--journal", path, "another process has it")),
+        Err(error) if words.may_fail => {
+            let _ = eprintln!(rt; "ua: --journal {path}: {error}: there is no journal");
+            Ok(None)
+        }
         Err(error) => Err(bad_file(UaFault::Journal, "--journal", path, error)),
     }
 }
