@@ -259,7 +259,7 @@ impl<U: User, F: RecordFile> Turns<U, F> {
     }
 
     // Runs a past round again. What the user asked for in it was asked for then; the first one has
-    // all that the user begins with.
+    // all that the user begins with, unless its end was cut off.
     fn run_again<R: Threads + Clock + Sync, E: Write>(
         &mut self,
         rt: &R,
@@ -267,7 +267,7 @@ impl<U: User, F: RecordFile> Turns<U, F> {
         last: &mut Option<PastRound>,
         errors: &mut E,
     ) -> Result<(), UaFault> {
-        if last.is_none() {
+        if last.is_none() && has_command(round.events.as_slice()) {
             self.waiting = Vec::new(self.alloc);
         }
         self.skip_asked(&round, errors)?;
@@ -662,6 +662,12 @@ fn since_1970<R: Clock>(rt: &R) -> Result<u64, UaFault> {
         Ok(passed) => Ok(u64::try_from(passed.as_millis()).unwrap_or(u64::MAX)),
         Err(_) => Err(UaFault::Socket),
     }
+}
+
+fn has_command(events: &[Event]) -> bool {
+    events
+        .iter()
+        .any(|event| matches!(event, Event::Command(_)))
 }
 
 // The lines of those events that are commands.
