@@ -1,0 +1,8 @@
+-- The law `rejected_in_time`.
+use Rattle.sip_transactions.proofs.Rules.{at_steps}
+use Rattle.sip_agent_laws.specs.Transactions.Closing.{RejectedInTime}
+use Rattle.sip_agent_laws.proofs.transactions.Closed as closed
+use Rattle.sip_agent_laws.proofs.transactions.rejected_in_time.Goals as goal
+
+pub returns : goal.returns
+returns c = at_steps RejectedInTime closed.rejected_in_time

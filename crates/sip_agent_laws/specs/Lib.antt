@@ -1,0 +1,5 @@
+pub mod Agents
+pub mod Calls
+pub mod Histories
+pub mod Repeats
+pub mod Transactions

@@ -1,0 +1,79 @@
+//! By when a transaction goes on and ends, for any list of its inputs.
+
+ghost use Rattle.sip_transactions.specs.Machine.{transaction_machine};
+ghost use Rattle.sip_agent_laws.specs.Transactions.Answered.{AnsweredAsBefore};
+ghost use Rattle.sip_agent_laws.specs.Transactions.Closing.{ClosedInTime, RejectedInTime};
+ghost use Rattle.sip_agent_laws.specs.Transactions.Outcomes.{AtMostOneOutcome, EachInviteEnds, EachRequestEnds, NoEarlyTimeout};
+ghost use Rattle.sip_agent_laws.specs.Transactions.Timers.{GoneUnlessWaiting, NothingLeftDue, RepeatedInTime, TicksAreQuiet, WaitsWithoutTimers};
+
+/// If the inputs other than ticks came by a moment, in whatever order, then after ticks of which
+/// one is 64*T1 later or later still, a transaction is gone, or it waits without a timer: the
+/// client of an INVITE after a provisional response, a server without a final response (RFC 3261,
+/// sections 17.1.1.2, 17.2.1 and 17.2.2).
+pub fn gone_unless_waiting()
+    ensures { GoneUnlessWaiting transaction_machine }
+{}
+
+/// What is held waits like that exactly if none of its timers runs. So what waits is never due.
+pub fn waits_without_timers()
+    ensures { WaitsWithoutTimers transaction_machine }
+{}
+
+/// After a tick nothing of a transaction is due at the moment of the tick.
+pub fn nothing_left_due()
+    ensures { NothingLeftDue transaction_machine }
+{}
+
+/// A tick hands up no message, but at most that no answer came, and drops nothing.
+pub fn ticks_are_quiet()
+    ensures { TicksAreQuiet transaction_machine }
+{}
+
+/// If the repeat (timer A, E or G) is due at a tick and the end isn't, what was sent last goes out
+/// again, once (RFC 3261, sections 17.1.1.2, 17.1.2.2 and 17.2.1).
+pub fn repeated_in_time()
+    ensures { RepeatedInTime transaction_machine }
+{}
+
+/// If its request comes again, a server that answered it sends again what it sent last, once, and
+/// nothing else happens. Of a 2xx to an INVITE this isn't said, nor after the ACK (RFC 3261,
+/// sections 17.2.1 and 17.2.2).
+pub fn answered_again_as_before()
+    ensures { AnsweredAsBefore transaction_machine }
+{}
+
+/// A client of a request other than INVITE tells of at most one outcome: a final response, a
+/// timeout or a failed send. By its end, and by the first tick 64*T1 after its start or later, it
+/// has told of one, unless the user gave it up (RFC 3261, section 17.1.2.2).
+pub fn each_request_ends()
+    ensures most { AtMostOneOutcome transaction_machine }
+    ensures ends { EachRequestEnds transaction_machine }
+{}
+
+/// By its end, and by the first tick 64*T1 after its start or later, a client of an INVITE has told
+/// of an outcome, unless the user gave it up; or a provisional response came up, and it waits (RFC
+/// 3261, section 17.1.1.2). It may tell of more than one: of more 2xx, or after a rejection of a
+/// failed send of its ACK.
+pub fn each_invite_ends()
+    ensures { EachInviteEnds transaction_machine }
+{}
+
+/// From its final response on a transaction is held for 64*T1, or T4 for timers K and I, and ends
+/// at the first tick from then on, whatever else comes. Only the user ends it sooner, or a failed
+/// send of its ACK. For a server of an INVITE that was rejected this holds from the ACK on (RFC
+/// 3261, sections 17.1.1.2, 17.1.2.2, 17.2.1 and 17.2.2; RFC 6026, section 7).
+pub fn closed_in_time()
+    ensures { ClosedInTime transaction_machine }
+{}
+
+/// A server of an INVITE that was rejected is held until its ACK, or until a tick 64*T1 later (timer
+/// H). Then it is gone, or got its ACK (RFC 3261, section 17.2.1).
+pub fn rejected_in_time()
+    ensures { RejectedInTime transaction_machine }
+{}
+
+/// No client tells of a timeout before a tick 64*T1 after its start (RFC 3261, sections 17.1.1.2 and
+/// 17.1.2.2).
+pub fn no_early_timeout()
+    ensures { NoEarlyTimeout transaction_machine }
+{}

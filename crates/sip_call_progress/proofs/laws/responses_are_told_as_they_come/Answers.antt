@@ -1,9 +1,0 @@
--- The law `responses_are_told_as_they_come`: a response is told by the input that brings it, once.
-use Rattle.sip_call_progress.proofs.Told.{told_as_they_come, told_once}
-use Rattle.sip_call_progress.proofs.laws.responses_are_told_as_they_come.Goals as goal
-
-pub returns-clause-comes : goal.returns-clause-comes
-returns-clause-comes c = told_as_they_come
-
-pub returns-clause-once : goal.returns-clause-once
-returns-clause-once c = told_once

@@ -1,8 +1,0 @@
--- The law `closed_in_time`.
-use Rattle.sip_transactions.proofs.Rules.{at_steps}
-use Rattle.sip_transaction_progress.specs.Closing.{ClosedInTime}
-use Rattle.sip_transaction_progress.proofs.Closed as closed
-use Rattle.sip_transaction_progress.proofs.laws.closed_in_time.Goals as goal
-
-pub returns : goal.returns
-returns c = at_steps ClosedInTime closed.closed_in_time

@@ -1,8 +1,0 @@
--- The law `gone_unless_waiting`.
-use Rattle.sip_transactions.proofs.Rules.{at_steps}
-use Rattle.sip_transaction_progress.specs.Timers.{GoneUnlessWaiting}
-use Rattle.sip_transaction_progress.proofs.Ticks as gone
-use Rattle.sip_transaction_progress.proofs.laws.gone_unless_waiting.Goals as goal
-
-pub returns : goal.returns
-returns c = at_steps GoneUnlessWaiting gone.gone_unless_waiting

@@ -1,8 +1,0 @@
--- The law `no_early_timeout`.
-use Rattle.sip_transactions.proofs.Rules.{at_steps}
-use Rattle.sip_transaction_progress.specs.Outcomes.{NoEarlyTimeout}
-use Rattle.sip_transaction_progress.proofs.Closed as closed
-use Rattle.sip_transaction_progress.proofs.laws.no_early_timeout.Goals as goal
-
-pub returns : goal.returns
-returns c = at_steps NoEarlyTimeout closed.no_early_timeout

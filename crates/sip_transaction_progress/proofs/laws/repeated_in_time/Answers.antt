@@ -1,8 +1,0 @@
--- The law `repeated_in_time`.
-use Rattle.sip_transactions.proofs.Rules.{at_steps}
-use Rattle.sip_transaction_progress.specs.Timers.{RepeatedInTime}
-use Rattle.sip_transaction_progress.proofs.Repeated as repeated
-use Rattle.sip_transaction_progress.proofs.laws.repeated_in_time.Goals as goal
-
-pub returns : goal.returns
-returns c = at_steps RepeatedInTime repeated.repeated_in_time

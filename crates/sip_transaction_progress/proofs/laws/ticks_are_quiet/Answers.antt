@@ -1,8 +1,0 @@
--- The law `ticks_are_quiet`.
-use Rattle.sip_transactions.proofs.Rules.{at_steps}
-use Rattle.sip_transaction_progress.specs.Timers.{TicksAreQuiet}
-use Rattle.sip_transaction_progress.proofs.Ticks as ticks
-use Rattle.sip_transaction_progress.proofs.laws.ticks_are_quiet.Goals as goal
-
-pub returns : goal.returns
-returns c = at_steps TicksAreQuiet ticks.ticks_are_quiet
