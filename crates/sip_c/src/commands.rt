@@ -2,7 +2,7 @@
 //! given before it with `sip_ua_raw_header`.
 
 ghost use Rattle.std.specs.Prelude.{◌≡◌};
-ghost use Rattle.sip_host.specs.Asking.{TakesCommand, TakesHeader, abandon_dialog_of, abandon_request_of, ack_of, cancel_of, invite_of, plain_of, prack_of, request_of, respond_of};
+ghost use Rattle.sip_host.specs.Asking.{TakesCommand, TakesHeader, abandon_dialog_of, abandon_request_of, ack_of, cancel_of, command_of, invite_of, plain_of, prack_of, request_of, respond_of};
 ghost use Rattle.sip_c.specs.Called.{Asks, Calls, addr_of, asked_of, reliability_of, support_of};
 ghost use Rattle.sip_c.specs.Status as spec;
 
@@ -10,8 +10,8 @@ use crate::handle::Handle;
 use crate::status::{NO_AGENT, OK, number_of, number_of_answer};
 use crate::values::{self, Address, Asked};
 use sip_host::{
-    AbandonDialogFields, AbandonRequestFields, BodyFields, CancelFields, HostFault, InviteFields,
-    PlainFields, RequestFields, RespondFields,
+    AbandonDialogFields, AbandonRequestFields, BodyFields, CancelFields, CommandFields, HostFault,
+    InviteFields, PlainFields, RequestFields, RespondFields,
 };
 use sip_message::Id;
 use std::alloc::Global;
@@ -61,10 +61,6 @@ pub extern "C" fn sip_ua_raw_invite(
           body = body.entry;
         }))) }
 {
-    let Some(mut host) = handle.take(alloc) else {
-        *asked = values::nothing_asked();
-        return NO_AGENT;
-    };
     let fields = InviteFields {
         call_id,
         address: address.addr(),
@@ -74,9 +70,7 @@ pub extern "C" fn sip_ua_raw_invite(
         support: values::support_of(supports_100rel, requires_100rel),
         body,
     };
-    let answer = host.invite(&fields);
-    handle.put(host);
-    tell(answer, asked)
+    ask(alloc, handle, &CommandFields::Invite(fields), asked)
 }
 
 /// Sends a request outside of any dialog.
@@ -104,10 +98,6 @@ pub extern "C" fn sip_ua_raw_plain(
           body = body.entry;
         }))) }
 {
-    let Some(mut host) = handle.take(alloc) else {
-        *asked = values::nothing_asked();
-        return NO_AGENT;
-    };
     let fields = PlainFields {
         call_id,
         address: address.addr(),
@@ -117,9 +107,7 @@ pub extern "C" fn sip_ua_raw_plain(
         to,
         body,
     };
-    let answer = host.plain(&fields);
-    handle.put(host);
-    tell(answer, asked)
+    ask(alloc, handle, &CommandFields::Plain(fields), asked)
 }
 
 /// Sends a request in a dialog.
@@ -143,10 +131,6 @@ pub extern "C" fn sip_ua_raw_request(
           body = body.entry;
         }))) }
 {
-    let Some(mut host) = handle.take(alloc) else {
-        *asked = values::nothing_asked();
-        return NO_AGENT;
-    };
     let fields = RequestFields {
         call_id,
         local_tag,
@@ -154,9 +138,7 @@ pub extern "C" fn sip_ua_raw_request(
         method,
         body,
     };
-    let answer = host.request(&fields);
-    handle.put(host);
-    tell(answer, asked)
+    ask(alloc, handle, &CommandFields::Request(fields), asked)
 }
 
 /// Sends a response to a request, by the request's id.
@@ -183,10 +165,6 @@ pub extern "C" fn sip_ua_raw_respond(
           body = body.entry;
         }))) }
 {
-    let Some(mut host) = handle.take(alloc) else {
-        *asked = values::nothing_asked();
-        return NO_AGENT;
-    };
     let fields = RespondFields {
         call_id,
         id: Id { round, place },
@@ -195,9 +173,7 @@ pub extern "C" fn sip_ua_raw_respond(
         reason,
         body,
     };
-    let answer = host.respond(&fields);
-    handle.put(host);
-    tell(answer, asked)
+    ask(alloc, handle, &CommandFields::Respond(fields), asked)
 }
 
 /// Sends the ACK of the oldest 2xx of a dialog that is owed one.
@@ -219,19 +195,13 @@ pub extern "C" fn sip_ua_raw_ack(
           body = body.entry;
         }))) }
 {
-    let Some(mut host) = handle.take(alloc) else {
-        *asked = values::nothing_asked();
-        return NO_AGENT;
-    };
     let fields = BodyFields {
         call_id,
         local_tag,
         remote_tag,
         body,
     };
-    let answer = host.ack(&fields);
-    handle.put(host);
-    tell(answer, asked)
+    ask(alloc, handle, &CommandFields::Ack(fields), asked)
 }
 
 /// Sends the PRACK of the oldest provisional response of a dialog that is owed one.
@@ -253,19 +223,13 @@ pub extern "C" fn sip_ua_raw_prack(
           body = body.entry;
         }))) }
 {
-    let Some(mut host) = handle.take(alloc) else {
-        *asked = values::nothing_asked();
-        return NO_AGENT;
-    };
     let fields = BodyFields {
         call_id,
         local_tag,
         remote_tag,
         body,
     };
-    let answer = host.prack(&fields);
-    handle.put(host);
-    tell(answer, asked)
+    ask(alloc, handle, &CommandFields::Prack(fields), asked)
 }
 
 /// Cancels an INVITE that was sent, by the INVITE's id.
@@ -284,17 +248,11 @@ pub extern "C" fn sip_ua_raw_cancel(
           id = record { round = round; place = place };
         }))) }
 {
-    let Some(mut host) = handle.take(alloc) else {
-        *asked = values::nothing_asked();
-        return NO_AGENT;
-    };
     let fields = CancelFields {
         call_id,
         id: Id { round, place },
     };
-    let answer = host.cancel(&fields);
-    handle.put(host);
-    tell(answer, asked)
+    ask(alloc, handle, &CommandFields::Cancel(fields), asked)
 }
 
 /// Gives up a request that was sent, by the request's id.
@@ -313,17 +271,11 @@ pub extern "C" fn sip_ua_raw_abandon_request(
           id = record { round = round; place = place };
         }))) }
 {
-    let Some(mut host) = handle.take(alloc) else {
-        *asked = values::nothing_asked();
-        return NO_AGENT;
-    };
     let fields = AbandonRequestFields {
         call_id,
         id: Id { round, place },
     };
-    let answer = host.abandon_request(&fields);
-    handle.put(host);
-    tell(answer, asked)
+    ask(alloc, handle, &CommandFields::AbandonRequest(fields), asked)
 }
 
 /// Gives up a dialog, by its tags.
@@ -343,16 +295,24 @@ pub extern "C" fn sip_ua_raw_abandon_dialog(
           remote_tag = remote_tag.entry;
         }))) }
 {
-    let Some(mut host) = handle.take(alloc) else {
-        *asked = values::nothing_asked();
-        return NO_AGENT;
-    };
     let fields = AbandonDialogFields {
         call_id,
         local_tag,
         remote_tag,
     };
-    let answer = host.abandon_dialog(&fields);
+    ask(alloc, handle, &CommandFields::AbandonDialog(fields), asked)
+}
+
+// Asks for a command, tells the answer, and gives its number.
+fn ask(alloc: Global, handle: &mut Handle, fields: &CommandFields<'_>, asked: &mut Asked) -> u32
+    ensures { Asks handle.old.owned.host handle.new.owned.host result asked.new
+        (TakesCommand (command_of fields.now)) }
+{
+    let Some(mut host) = handle.take(alloc) else {
+        *asked = values::nothing_asked();
+        return NO_AGENT;
+    };
+    let answer = host.command(fields);
     handle.put(host);
     tell(answer, asked)
 }

@@ -5,9 +5,9 @@ ghost use Rattle.sip_c.specs.Called.{TellsNothing, TellsOrNot};
 ghost use Rattle.sip_c.specs.Journal.{Resumes, TellsRound, nothing_resumed};
 
 use crate::handle::Handle;
-use crate::status::{NO_AGENT, NO_MEMORY, number_of_resume, room_answer};
+use crate::questions::tell_text;
+use crate::status::{NO_AGENT, NO_MEMORY, number_of_resume};
 use crate::values::{Resumed, resumed_of};
-use sip_host::put;
 use std::alloc::Global;
 
 /// The lines of the last round.
@@ -32,11 +32,7 @@ pub extern "C" fn sip_ua_raw_round_text(
     let answer = host.round_text();
     handle.put(host);
     match answer {
-        Ok(text) => {
-            put(&text, buffer);
-            *len = text.len();
-            room_answer(text.len(), buffer.len())
-        }
+        Ok(text) => tell_text(&text, len, buffer),
         Err(_) => NO_MEMORY,
     }
 }

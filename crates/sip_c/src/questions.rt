@@ -2,6 +2,7 @@
 //! datagram says.
 
 ghost use Rattle.std.specs.Prelude.{◌≡◌, ◌⊎◌, ◌+◌, ◌≤◌, IfSome, None, Option, Some, false, length};
+ghost use Rattle.sip_host.specs.Handing.{put_in};
 ghost use Rattle.sip_host.specs.Hosting.{HoldsSo, TellsIfItBegins, last_id_of};
 ghost use Rattle.sip_host.specs.declared.holdings.Holdings.{Holdings as AHoldings};
 ghost use Rattle.sip_c.specs.Status as spec;
@@ -14,6 +15,7 @@ use crate::status::{NO_AGENT, NO_MEMORY, NO_ROOM, OK, room_answer};
 use crate::values::{
     self, Datagram, EventId, HeaderLengths, RequestTraits, StartLine, Stats, TextLength,
 };
+use sip_host::put;
 use sip_message::Id;
 use std::alloc::Global;
 
@@ -57,16 +59,23 @@ pub extern "C" fn sip_ua_raw_opening_tag(
     let Some(host) = handle.take(alloc) else {
         return NO_AGENT;
     };
-    let room = buffer.len();
-    let answer = host.opening_tag(Id { round, place }, buffer);
+    let answer = host.opening_tag(Id { round, place });
     handle.put(host);
     match answer {
-        Ok(tag) => {
-            *len = tag;
-            room_answer(tag, room)
-        }
+        Ok(tag) => tell_text(tag.as_slice(), len, buffer),
         Err(_) => NO_MEMORY,
     }
+}
+
+/// Tells a text, if it fits into the buffer, and how long it is. Gives the number of the call.
+pub(crate) fn tell_text(text: &[u8], len: &mut usize, buffer: &mut [u8]) -> u32
+    ensures number { result ≡ spec.room_answer (length text.now) (length buffer.old) }
+    ensures told { len.new ≡ length text.now }
+    ensures put { buffer.new ≡ put_in text.now buffer.old }
+{
+    *len = text.len();
+    put(text, buffer);
+    room_answer(text.len(), buffer.len())
 }
 
 /// What the agent holds, and what waits in it.
@@ -313,14 +322,10 @@ pub extern "C" fn sip_ua_raw_header_values(
     let Some(host) = handle.take(alloc) else {
         return NO_AGENT;
     };
-    let room = buffer.len();
-    let answer = host.values_text(place, name, buffer);
+    let answer = host.values_text(place, name);
     handle.put(host);
     match answer {
-        Ok(values) => {
-            *len = values;
-            room_answer(values, room)
-        }
+        Ok(text) => tell_text(&text, len, buffer),
         Err(_) => NO_MEMORY,
     }
 }
@@ -346,14 +351,10 @@ pub extern "C" fn sip_ua_raw_header_lines(
     let Some(host) = handle.take(alloc) else {
         return NO_AGENT;
     };
-    let room = buffer.len();
-    let answer = host.lines_text(place, buffer);
+    let answer = host.lines_text(place);
     handle.put(host);
     match answer {
-        Ok(lines) => {
-            *len = lines;
-            room_answer(lines, room)
-        }
+        Ok(text) => tell_text(&text, len, buffer),
         Err(_) => NO_MEMORY,
     }
 }

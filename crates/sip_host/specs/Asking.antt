@@ -18,6 +18,8 @@ use Rattle.sip_host.specs.declared.fields.AbandonDialogFields.{AbandonDialogFiel
 use Rattle.sip_host.specs.declared.fields.AbandonRequestFields.{AbandonRequestFields}
 use Rattle.sip_host.specs.declared.fields.BodyFields.{BodyFields}
 use Rattle.sip_host.specs.declared.fields.CancelFields.{CancelFields}
+use Rattle.sip_host.specs.declared.fields.CommandFields.{CommandFields}
+use Rattle.sip_host.specs.declared.fields.CommandFields.TheVariants as given
 use Rattle.sip_host.specs.declared.fields.InviteFields.{InviteFields}
 use Rattle.sip_host.specs.declared.fields.PlainFields.{PlainFields}
 use Rattle.sip_host.specs.declared.fields.RequestFields.{RequestFields}
@@ -106,6 +108,17 @@ abandon_dialog_of fields = command.AbandonDialog (record {
   remote_tag = tag_of fields.remote_tag.now;
 })
 
+abbrev pub command_of : CommandFields → UserCommand
+command_of (given.Invite f) = invite_of f
+command_of (given.Plain f) = plain_of f
+command_of (given.Request f) = request_of f
+command_of (given.Respond f) = respond_of f
+command_of (given.Ack f) = ack_of f
+command_of (given.Prack f) = prack_of f
+command_of (given.Cancel f) = cancel_of f
+command_of (given.AbandonRequest f) = abandon_request_of f
+command_of (given.AbandonDialog f) = abandon_dialog_of f
+
 -- ---- the rules of the fields
 
 -- an absent tag also keeps the rule of a tag (RFC 3261, section 19.3)
@@ -147,6 +160,11 @@ rules_of (command.AbandonDialog c) = dialog_rules c.call_id c.local_tag c.remote
 abbrev pub first_bad : List (Field × Bool) → Option Field
 first_bad [] = None
 first_bad ((name, is_kept) ∷ fields) = if is_kept then first_bad fields else Some name
+
+-- each of these fields keeps its rule
+abbrev pub AllKept : List (Field × Bool) → Type 0
+AllKept [] = Unit {0}
+AllKept ((name, is_kept) ∷ fields) = IsTrue is_kept × AllKept fields
 
 -- the command is made if each field keeps its rule
 pub record Makes (wanted : UserCommand) (answer : Result UserCommand HostFault) : Type 0 where

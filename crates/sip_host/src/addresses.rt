@@ -12,7 +12,7 @@ use sip_text::ParameterText;
 use std::alloc::{AllocError, Global};
 
 /// How long the texts of an address are, in bytes.
-#[derive(Clone, Copy, PartialEq, Eq)]
+#[derive(Clone, Copy)]
 pub struct AddressLength {
     /// The display text as it is written, with its quotes.
     pub display: usize,

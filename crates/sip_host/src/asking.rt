@@ -1,16 +1,13 @@
 //! Commands made of fields. Each rule is tested before any memory is taken.
 
-ghost use Rattle.std.specs.Prelude.{◌≡◌, Err, IfOk, IsTrue, Ok, if◌then◌else◌};
-ghost use Rattle.sip_grammar.specs.Word.{is_word};
+ghost use Rattle.std.specs.Prelude.{◌≡◌, IfOk, IsTrue};
 ghost use Rattle.sip_message.specs.Content.{content_of_body};
 ghost use Rattle.sip_host.specs.Asking as asking;
-ghost use Rattle.sip_host.specs.declared.host_fault.HostFault.TheVariants as fault;
 
 use crate::absolute::is_absolute;
 use crate::field::Field;
 use crate::fields::{
-    AbandonDialogFields, AbandonRequestFields, BodyFields, CancelFields, InviteFields, PlainFields,
-    RequestFields, RespondFields,
+    BodyFields, CommandFields, InviteFields, PlainFields, RequestFields, RespondFields,
 };
 use crate::host_fault::HostFault;
 use sip_grammar::{has_no_line_byte, is_word};
@@ -27,21 +24,122 @@ const MIN_STATUS: u16 = 101;
 
 const MAX_STATUS: u16 = 699;
 
-/// A first INVITE, without headers.
+/// The command of these fields, without headers.
 ///
 /// # Errors
 ///
 /// `BadField` for the first field that doesn't keep its rule, or `NoMemory`.
-pub(crate) fn invite_command(
+#[tactic(auto, using(crate::proofs::KeptRules::kept_all))]
+pub(crate) fn command_of(
     alloc: Global,
-    fields: &InviteFields<'_>,
+    fields: &CommandFields<'_>,
 ) -> Result<UserCommand, HostFault>
-    ensures { asking.Makes (asking.invite_of fields.now) result }
+    ensures { asking.Makes (asking.command_of fields.now) result }
 {
-    keep(Field::CallId, is_word(fields.call_id))?;
-    keep(Field::RequestUri, is_absolute(fields.request_uri))?;
-    keep(Field::From, is_absolute(fields.from))?;
-    keep(Field::To, is_absolute(fields.to))?;
+    match bad_field(fields) {
+        Some(field) => Err(HostFault::BadField(field)),
+        None => Ok(command_copy(alloc, fields)?),
+    }
+}
+
+// The first field that doesn't keep its rule.
+fn bad_field(fields: &CommandFields<'_>) -> Option<Field>
+    ensures { result ≡ asking.first_bad (asking.rules_of (asking.command_of fields.now)) }
+{
+    match fields {
+        CommandFields::Invite(fields) => first_bad(&[
+            (Field::CallId, is_word(fields.call_id)),
+            (Field::RequestUri, is_absolute(fields.request_uri)),
+            (Field::From, is_absolute(fields.from)),
+            (Field::To, is_absolute(fields.to)),
+        ]),
+        CommandFields::Plain(fields) => first_bad(&[
+            (Field::CallId, is_word(fields.call_id)),
+            (Field::Method, is_token(fields.method)),
+            (Field::RequestUri, is_absolute(fields.request_uri)),
+            (Field::From, is_absolute(fields.from)),
+            (Field::To, is_absolute(fields.to)),
+        ]),
+        CommandFields::Request(fields) => first_bad(&[
+            (Field::CallId, is_word(fields.call_id)),
+            (Field::LocalTag, is_tag(fields.local_tag)),
+            (Field::RemoteTag, is_tag(fields.remote_tag)),
+            (Field::Method, is_token(fields.method)),
+        ]),
+        CommandFields::Respond(fields) => first_bad(&[
+            (Field::CallId, is_word(fields.call_id)),
+            (Field::Status, is_status(fields.status)),
+            (Field::Reason, has_no_line_byte(fields.reason)),
+        ]),
+        CommandFields::Ack(fields) | CommandFields::Prack(fields) => {
+            bad_in_dialog(fields.call_id, fields.local_tag, fields.remote_tag)
+        }
+        CommandFields::AbandonDialog(fields) => {
+            bad_in_dialog(fields.call_id, fields.local_tag, fields.remote_tag)
+        }
+        CommandFields::Cancel(fields) => { first_bad(&[(Field::CallId, is_word(fields.call_id))]) }
+        CommandFields::AbandonRequest(fields) => {
+            first_bad(&[(Field::CallId, is_word(fields.call_id))])
+        }
+    }
+}
+
+fn bad_in_dialog(call_id: &[u8], local_tag: &[u8], remote_tag: &[u8]) -> Option<Field>
+    ensures { result ≡ asking.first_bad (asking.dialog_rules call_id.now
+        (asking.tag_of local_tag.now) (asking.tag_of remote_tag.now)) }
+{
+    first_bad(&[
+        (Field::CallId, is_word(call_id)),
+        (Field::LocalTag, is_tag(local_tag)),
+        (Field::RemoteTag, is_tag(remote_tag)),
+    ])
+}
+
+// The first of these fields that doesn't keep its rule.
+#[tactic(auto, using(crate::proofs::KeptRules::bad_from, crate::proofs::KeptRules::none_after))]
+fn first_bad(rules: &[(Field, bool)]) -> Option<Field>
+    ensures { result ≡ asking.first_bad rules.now }
+{
+    for (field, is_kept) in rules {
+        if !*is_kept {
+            return Some(*field);
+        }
+    }
+    None
+}
+
+// The command of fields that keep their rules.
+fn command_copy(alloc: Global, fields: &CommandFields<'_>) -> Result<UserCommand, AllocError>
+    requires { asking.AllKept (asking.rules_of (asking.command_of fields.now)) }
+    ensures { IfOk result (λ made. made ≡ asking.command_of fields.now) }
+{
+    match fields {
+        CommandFields::Invite(fields) => invite(alloc, fields),
+        CommandFields::Plain(fields) => plain(alloc, fields),
+        CommandFields::Request(fields) => request(alloc, fields),
+        CommandFields::Respond(fields) => respond(alloc, fields),
+        CommandFields::Ack(fields) => Ok(UserCommand::Ack(dialog_body(alloc, fields)?)),
+        CommandFields::Prack(fields) => Ok(UserCommand::Prack(dialog_body(alloc, fields)?)),
+        CommandFields::Cancel(fields) => Ok(UserCommand::Cancel(Cancel {
+            call_id: CallId::copy_of(alloc, fields.call_id)?,
+            id: fields.id,
+        })),
+        CommandFields::AbandonRequest(fields) => Ok(UserCommand::AbandonRequest(AbandonRequest {
+            call_id: CallId::copy_of(alloc, fields.call_id)?,
+            id: fields.id,
+        })),
+        CommandFields::AbandonDialog(fields) => Ok(UserCommand::AbandonDialog(AbandonDialog {
+            call_id: CallId::copy_of(alloc, fields.call_id)?,
+            local_tag: tag(alloc, fields.local_tag)?,
+            remote_tag: tag(alloc, fields.remote_tag)?,
+        })),
+    }
+}
+
+fn invite(alloc: Global, fields: &InviteFields<'_>) -> Result<UserCommand, AllocError>
+    requires { asking.AllKept (asking.rules_of (asking.invite_of fields.now)) }
+    ensures { IfOk result (λ made. made ≡ asking.invite_of fields.now) }
+{
     Ok(UserCommand::Invite(Invite {
         call_id: CallId::copy_of(alloc, fields.call_id)?,
         address: fields.address,
@@ -54,22 +152,10 @@ pub(crate) fn invite_command(
     }))
 }
 
-/// A request outside of dialogs, without headers.
-///
-/// # Errors
-///
-/// As for [`invite_command`].
-pub(crate) fn plain_command(
-    alloc: Global,
-    fields: &PlainFields<'_>,
-) -> Result<UserCommand, HostFault>
-    ensures { asking.Makes (asking.plain_of fields.now) result }
+fn plain(alloc: Global, fields: &PlainFields<'_>) -> Result<UserCommand, AllocError>
+    requires { asking.AllKept (asking.rules_of (asking.plain_of fields.now)) }
+    ensures { IfOk result (λ made. made ≡ asking.plain_of fields.now) }
 {
-    keep(Field::CallId, is_word(fields.call_id))?;
-    keep(Field::Method, is_token(fields.method))?;
-    keep(Field::RequestUri, is_absolute(fields.request_uri))?;
-    keep(Field::From, is_absolute(fields.from))?;
-    keep(Field::To, is_absolute(fields.to))?;
     Ok(UserCommand::Plain(Plain {
         call_id: CallId::copy_of(alloc, fields.call_id)?,
         address: fields.address,
@@ -82,21 +168,10 @@ pub(crate) fn plain_command(
     }))
 }
 
-/// A request in a dialog, without headers.
-///
-/// # Errors
-///
-/// As for [`invite_command`].
-pub(crate) fn request_command(
-    alloc: Global,
-    fields: &RequestFields<'_>,
-) -> Result<UserCommand, HostFault>
-    ensures { asking.Makes (asking.request_of fields.now) result }
+fn request(alloc: Global, fields: &RequestFields<'_>) -> Result<UserCommand, AllocError>
+    requires { asking.AllKept (asking.rules_of (asking.request_of fields.now)) }
+    ensures { IfOk result (λ made. made ≡ asking.request_of fields.now) }
 {
-    keep(Field::CallId, is_word(fields.call_id))?;
-    keep(Field::LocalTag, is_tag(fields.local_tag))?;
-    keep(Field::RemoteTag, is_tag(fields.remote_tag))?;
-    keep(Field::Method, is_token(fields.method))?;
     Ok(UserCommand::Request(DialogRequest {
         call_id: CallId::copy_of(alloc, fields.call_id)?,
         local_tag: tag(alloc, fields.local_tag)?,
@@ -106,20 +181,10 @@ pub(crate) fn request_command(
     }))
 }
 
-/// A response to a request, without headers.
-///
-/// # Errors
-///
-/// As for [`invite_command`].
-pub(crate) fn respond_command(
-    alloc: Global,
-    fields: &RespondFields<'_>,
-) -> Result<UserCommand, HostFault>
-    ensures { asking.Makes (asking.respond_of fields.now) result }
+fn respond(alloc: Global, fields: &RespondFields<'_>) -> Result<UserCommand, AllocError>
+    requires { asking.AllKept (asking.rules_of (asking.respond_of fields.now)) }
+    ensures { IfOk result (λ made. made ≡ asking.respond_of fields.now) }
 {
-    keep(Field::CallId, is_word(fields.call_id))?;
-    keep(Field::Status, is_status(fields.status))?;
-    keep(Field::Reason, has_no_line_byte(fields.reason))?;
     Ok(UserCommand::Respond(Respond {
         call_id: CallId::copy_of(alloc, fields.call_id)?,
         id: fields.id,
@@ -130,103 +195,16 @@ pub(crate) fn respond_command(
     }))
 }
 
-/// An ACK, without headers.
-///
-/// # Errors
-///
-/// As for [`invite_command`].
-pub(crate) fn ack_command(alloc: Global, fields: &BodyFields<'_>) -> Result<UserCommand, HostFault>
-    ensures { asking.Makes (asking.ack_of fields.now) result }
+fn dialog_body(alloc: Global, fields: &BodyFields<'_>) -> Result<DialogBody, AllocError>
+    requires { asking.AllKept (asking.rules_of (asking.ack_of fields.now)) }
+    ensures { IfOk result (λ body. body ≡ asking.body_of fields.now) }
 {
-    keep(Field::CallId, is_word(fields.call_id))?;
-    keep(Field::LocalTag, is_tag(fields.local_tag))?;
-    keep(Field::RemoteTag, is_tag(fields.remote_tag))?;
-    Ok(UserCommand::Ack(dialog_body(alloc, fields)?))
-}
-
-/// A PRACK, without headers.
-///
-/// # Errors
-///
-/// As for [`invite_command`].
-pub(crate) fn prack_command(
-    alloc: Global,
-    fields: &BodyFields<'_>,
-) -> Result<UserCommand, HostFault>
-    ensures { asking.Makes (asking.prack_of fields.now) result }
-{
-    keep(Field::CallId, is_word(fields.call_id))?;
-    keep(Field::LocalTag, is_tag(fields.local_tag))?;
-    keep(Field::RemoteTag, is_tag(fields.remote_tag))?;
-    Ok(UserCommand::Prack(dialog_body(alloc, fields)?))
-}
-
-/// A CANCEL.
-///
-/// # Errors
-///
-/// As for [`invite_command`].
-pub(crate) fn cancel_command(
-    alloc: Global,
-    fields: &CancelFields<'_>,
-) -> Result<UserCommand, HostFault>
-    ensures { asking.Makes (asking.cancel_of fields.now) result }
-{
-    keep(Field::CallId, is_word(fields.call_id))?;
-    Ok(UserCommand::Cancel(Cancel {
-        call_id: CallId::copy_of(alloc, fields.call_id)?,
-        id: fields.id,
-    }))
-}
-
-/// The command that gives a request up.
-///
-/// # Errors
-///
-/// As for [`invite_command`].
-pub(crate) fn abandon_request_command(
-    alloc: Global,
-    fields: &AbandonRequestFields<'_>,
-) -> Result<UserCommand, HostFault>
-    ensures { asking.Makes (asking.abandon_request_of fields.now) result }
-{
-    keep(Field::CallId, is_word(fields.call_id))?;
-    Ok(UserCommand::AbandonRequest(AbandonRequest {
-        call_id: CallId::copy_of(alloc, fields.call_id)?,
-        id: fields.id,
-    }))
-}
-
-/// The command that gives a dialog up.
-///
-/// # Errors
-///
-/// As for [`invite_command`].
-pub(crate) fn abandon_dialog_command(
-    alloc: Global,
-    fields: &AbandonDialogFields<'_>,
-) -> Result<UserCommand, HostFault>
-    ensures { asking.Makes (asking.abandon_dialog_of fields.now) result }
-{
-    keep(Field::CallId, is_word(fields.call_id))?;
-    keep(Field::LocalTag, is_tag(fields.local_tag))?;
-    keep(Field::RemoteTag, is_tag(fields.remote_tag))?;
-    Ok(UserCommand::AbandonDialog(AbandonDialog {
+    Ok(DialogBody {
         call_id: CallId::copy_of(alloc, fields.call_id)?,
         local_tag: tag(alloc, fields.local_tag)?,
         remote_tag: tag(alloc, fields.remote_tag)?,
-    }))
-}
-
-// Nothing if the field keeps its rule, otherwise the fault.
-fn keep(field: Field, is_kept: bool) -> Result<(), HostFault>
-    ensures { result ≡ (if is_kept then Ok tt else Err (fault.BadField field)) }
-{
-    if is_kept {
-        Ok(())
-    } else {
-        Err(HostFault::BadField(field))
-    }
+        content: content(alloc, fields.body)?,
+    })
 }
 
 fn is_status(status: u16) -> bool
@@ -259,19 +237,4 @@ fn content(alloc: Global, body: &[u8]) -> Result<Content, AllocError>
     ensures { IfOk result (λ content. content ≡ content_of_body body.now) }
 {
     Ok(Content::of_body(Text::copy_of(alloc, body)?))
-}
-
-// The fields of a body in a dialog. Each keeps its rule.
-fn dialog_body(alloc: Global, fields: &BodyFields<'_>) -> Result<DialogBody, AllocError>
-    requires call_id { IsTrue (is_word fields.now.call_id.now) }
-    requires local_tag { IsTrue (asking.is_tag (asking.tag_of fields.now.local_tag.now)) }
-    requires remote_tag { IsTrue (asking.is_tag (asking.tag_of fields.now.remote_tag.now)) }
-    ensures { IfOk result (λ body. body ≡ asking.body_of fields.now) }
-{
-    Ok(DialogBody {
-        call_id: CallId::copy_of(alloc, fields.call_id)?,
-        local_tag: tag(alloc, fields.local_tag)?,
-        remote_tag: tag(alloc, fields.remote_tag)?,
-        content: content(alloc, fields.body)?,
-    })
 }

@@ -3,6 +3,30 @@
 use sip_message::{Addr, Id};
 use sip_user::{ProvisionalSupport, Reliability};
 
+/// A command by its fields.
+#[derive(Clone, Copy)]
+pub enum CommandFields<'a> {
+    /// Starts a call: a first INVITE to an address.
+    Invite(InviteFields<'a>),
+    /// Sends a request outside of any dialog.
+    Plain(PlainFields<'a>),
+    /// Sends a request in a dialog.
+    Request(RequestFields<'a>),
+    /// Sends a response to a request.
+    Respond(RespondFields<'a>),
+    /// Sends the ACK of the oldest 2xx of a dialog that is owed one.
+    Ack(BodyFields<'a>),
+    /// Sends the PRACK of the oldest provisional response of a dialog that is owed one.
+    Prack(BodyFields<'a>),
+    /// Cancels an INVITE that was sent. A CANCEL takes no headers.
+    Cancel(CancelFields<'a>),
+    /// Gives up a request that was sent: it is no longer held, and nothing more is sent or told of
+    /// it. Takes no headers.
+    AbandonRequest(AbandonRequestFields<'a>),
+    /// Gives up a dialog: it ends, and nothing is sent. Takes no headers.
+    AbandonDialog(AbandonDialogFields<'a>),
+}
+
 /// The fields of a first INVITE, which goes to an address.
 #[derive(Clone, Copy)]
 pub struct InviteFields<'a> {

@@ -1,6 +1,6 @@
 //! How an output is handed to a host: its text goes into a buffer. A send may fail.
 
-ghost use Rattle.std.specs.Prelude.{◌≡◌, Err, IfOk, IfSome, IsSomeAnd, None, OnErr, OnOk, Some, length};
+ghost use Rattle.std.specs.Prelude.{◌≡◌, ◌++◌, Err, IfOk, IfSome, IsSomeAnd, None, OnErr, OnOk, Some};
 ghost use Rattle.std.specs.Option.{option_to_list};
 ghost use Rattle.sip_host.specs.Handing as handing;
 ghost use Rattle.sip_host.specs.declared.host_fault.HostFault.TheVariants as fault;
@@ -10,7 +10,7 @@ use crate::line_length::LineLength;
 use crate::next_output::NextOutput;
 use crate::start_length::StartLength;
 use sip_files::write_output;
-use sip_message::{Addr, Token};
+use sip_message::Token;
 use sip_reader::{FirstLine, HeaderLine};
 use sip_round::{Event, Output, PlacedOutput};
 use std::alloc::{AllocError, Global};
@@ -28,37 +28,25 @@ pub(crate) fn put_output(
     ensures same { OnErr result (buffer.new ≡ buffer.old) }
 {
     let place = placed.place;
-    let (to, len) = put_text(alloc, &placed.output, buffer)?;
-    Ok(NextOutput {
-        index,
-        place,
-        to,
-        len,
-    })
-}
-
-// Puts the text of the output at the beginning of the buffer, if it fits. Gives where a send goes,
-// and how long the text is.
-fn put_text(
-    alloc: Global,
-    output: &Output,
-    buffer: &mut [u8],
-) -> Result<(Option<Addr>, usize), AllocError>
-    ensures told { IfOk result (λ told. told
-        ≡ (handing.target_of output.now, length (handing.text_of output.now))) }
-    ensures put { OnOk result (buffer.new ≡ handing.put_in (handing.text_of output.now)
-        buffer.old) }
-    ensures same { OnErr result (buffer.new ≡ buffer.old) }
-{
-    match output {
+    match &placed.output {
         Output::Send { to, bytes, .. } => {
             put(bytes.as_slice(), buffer);
-            Ok((Some(*to), bytes.len()))
+            Ok(NextOutput {
+                index,
+                place,
+                to: Some(*to),
+                len: bytes.len(),
+            })
         }
         Output::Dropped { .. } | Output::Notice(_) => {
-            let line = write_output(alloc, output)?;
+            let line = write_output(alloc, &placed.output)?;
             put(line.as_slice(), buffer);
-            Ok((None, line.len()))
+            Ok(NextOutput {
+                index,
+                place,
+                to: None,
+                len: line.len(),
+            })
         }
     }
 }
@@ -93,56 +81,56 @@ pub fn put(text: &[u8], buffer: &mut [u8])
     front.copy_from_slice(text);
 }
 
+// Puts two texts, one directly after the other, at the beginning of the buffer, if both fit.
+#[tactic(auto, using(crate::proofs::PutTexts::pair_too_long, crate::proofs::PutTexts::put_after))]
+fn put_pair(first: &[u8], second: &[u8], buffer: &mut [u8])
+    ensures { buffer.new ≡ handing.put_in (first.now ++ second.now) buffer.old }
+{
+    if buffer.len() < first.len() {
+        return;
+    }
+    if buffer.len() - first.len() < second.len() {
+        return;
+    }
+    let (front, rest) = buffer.split_at_mut(first.len());
+    front.copy_from_slice(first);
+    put(second, rest);
+}
+
 /// Puts the name and the value of a header line at the beginning of the buffer, if both fit. Gives
 /// how long each is.
-pub(crate) fn put_line(
-    alloc: Global,
-    line: &HeaderLine,
-    buffer: &mut [u8],
-) -> Result<LineLength, AllocError>
-    ensures lengths { IfOk result (λ told. told ≡ handing.length_of_line line.now) }
-    ensures put { OnOk result (buffer.new ≡ handing.put_in (handing.line_text line.now)
-        buffer.old) }
-    ensures same { OnErr result (buffer.new ≡ buffer.old) }
+pub(crate) fn put_line(line: &HeaderLine, buffer: &mut [u8]) -> LineLength
+    ensures lengths { result ≡ handing.length_of_line line.now }
+    ensures put { buffer.new ≡ handing.put_in (handing.line_text line.now) buffer.old }
 {
     let (name, value) = (line.name.as_slice(), line.value.as_slice());
-    let mut text = Vec::from_slice(alloc, name)?;
-    text.extend_from_slice(value)?;
-    put(&text, buffer);
-    Ok(LineLength {
+    put_pair(name, value, buffer);
+    LineLength {
         name: name.len(),
         value: value.len(),
-    })
+    }
 }
 
 /// Puts the texts of a start line at the beginning of the buffer, if all of them fit. Gives how
 /// long each is.
-pub(crate) fn put_start(
-    alloc: Global,
-    first: &FirstLine<Token>,
-    buffer: &mut [u8],
-) -> Result<StartLength, AllocError>
-    ensures lengths { IfOk result (λ start. start ≡ handing.start_of first.now) }
-    ensures put { OnOk result (buffer.new ≡ handing.put_in (handing.start_text first.now)
-        buffer.old) }
-    ensures same { OnErr result (buffer.new ≡ buffer.old) }
+pub(crate) fn put_start(first: &FirstLine<Token>, buffer: &mut [u8]) -> StartLength
+    ensures lengths { result ≡ handing.start_of first.now }
+    ensures put { buffer.new ≡ handing.put_in (handing.start_text first.now) buffer.old }
 {
     match first {
         FirstLine::Request { method, uri } => {
-            let mut text = Vec::from_slice(alloc, method.as_slice())?;
-            text.extend_from_slice(uri.as_slice())?;
-            put(&text, buffer);
-            Ok(StartLength::Request {
+            put_pair(method.as_slice(), uri.as_slice(), buffer);
+            StartLength::Request {
                 method: method.as_slice().len(),
                 uri: uri.as_slice().len(),
-            })
+            }
         }
         FirstLine::Response { status, reason } => {
             put(reason.as_slice(), buffer);
-            Ok(StartLength::Response {
+            StartLength::Response {
                 status: status.code(),
                 reason: reason.as_slice().len(),
-            })
+            }
         }
     }
 }

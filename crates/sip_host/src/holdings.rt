@@ -1,7 +1,7 @@
 //! What a host holds.
 
 /// What a host holds, and what waits in it.
-#[derive(Clone, Copy, PartialEq, Eq)]
+#[derive(Clone, Copy)]
 pub struct Holdings {
     /// Transactions and calls that have begun and haven't ended.
     pub transactions: u128,

@@ -1,6 +1,6 @@
 //! A host's agent: events go in, rounds run, outputs come out.
 
-ghost use Rattle.std.specs.Prelude.{◌≡◌, ◌⊎◌, Option, ◌<◌, ◌≤◌, ◌+◌, ◌++◌, ◌∷◌, [], ℕ, List, IfOk, IfSome, Err, None, Ok, OnErr, OnOk, Some, length, false, nat_lt, true, if◌then◌else◌};
+ghost use Rattle.std.specs.Prelude.{◌≡◌, ◌⊎◌, Option, ◌<◌, ◌≤◌, ◌+◌, ◌∷◌, [], ℕ, List, IfOk, IfSome, Err, None, Ok, OnErr, OnOk, Some, length, false, nat_lt, true, if◌then◌else◌};
 ghost use Rattle.std.specs.List.{slice_get};
 ghost use Rattle.std.specs.Option.{option_copied, option_map};
 ghost use Rattle.sip_clients.specs.Name.{opening_tag};
@@ -15,10 +15,9 @@ ghost use Rattle.sip_reader.specs.Head.{HasHeaderLines};
 ghost use Rattle.sip_reader.specs.Spells.{Answers};
 ghost use Rattle.sip_reader.specs.declared.first_line.FirstLine.{FirstLine as AFirstLine};
 ghost use Rattle.sip_reader.specs.declared.untyped_line.HeaderLine.{HeaderLine as AHeaderLine};
-ghost use Rattle.sip_user.specs.declared.command.UserCommand.{UserCommand as AUserCommand};
 ghost use Rattle.sip_files.specs.Given.{with_given};
 ghost use Rattle.sip_round.specs.declared.round.Event.TheVariants.{Command};
-ghost use Rattle.sip_host.specs.Asking.{Makes, TakesCommand, TakesHeader, abandon_dialog_of, abandon_request_of, ack_of, cancel_of, invite_of, plain_of, prack_of, request_of, respond_of, without_headers};
+ghost use Rattle.sip_host.specs.Asking.{TakesCommand, TakesHeader, command_of, without_headers};
 ghost use Rattle.sip_host.specs.Handing.{datagram_in, head_of, length_of_line, line_text, lines_text, put_if, put_in, start_of, start_text, text_of, values_text};
 ghost use Rattle.sip_host.specs.Hosting.{Begins, BeginsAt, HasLinesAt, HasValuesAt, HoldsSo, RunsRound, TakesDatagram, TakesFailure, TakesLine, TakesLines, TellsIfItBegins, after_one, after_taking, last_events, last_id_of, output_at, shard_of, with_events};
 ghost use Rattle.sip_files.specs.Written.{IsSessionRound};
@@ -30,15 +29,9 @@ ghost use Rattle.sip_round.specs.declared.round_fault.RoundFault.TheVariants as 
 ghost use Rattle.sip_host.specs.declared.field.Field.TheVariants as field;
 ghost use Rattle.sip_host.specs.declared.host_fault.HostFault.TheVariants as fault;
 
-use crate::asking::{
-    abandon_dialog_command, abandon_request_command, ack_command, cancel_command, invite_command,
-    plain_command, prack_command, request_command, respond_command,
-};
+use crate::asking::command_of;
 use crate::field::Field;
-use crate::fields::{
-    AbandonDialogFields, AbandonRequestFields, BodyFields, CancelFields, InviteFields, PlainFields,
-    RequestFields, RespondFields,
-};
+use crate::fields::CommandFields;
 use crate::given::header_of;
 use crate::handing::{failure_of, put, put_line, put_output, put_start};
 use crate::header_texts as texts;
@@ -61,7 +54,6 @@ use sip_round::{
     datagram_at, event_at,
 };
 use sip_text::{Series, Text};
-use sip_user::UserCommand;
 use std::alloc::{AllocError, Global};
 use std::mem;
 
@@ -169,118 +161,27 @@ impl Host {
         Ok(())
     }
 
-    /// Starts a call: a first INVITE to an address. It is an event of the next round, and takes the
-    /// headers that are kept for it. Gives the id of the event.
+    /// Asks for a command. It is an event of the next round, and takes the headers that are kept for
+    /// it. Gives the id of the event.
     ///
     /// # Errors
     ///
     /// `TooManyEvents`; `BadField` for the first field that doesn't keep its rule, or of the
     /// headers if the command doesn't take them; or `NoMemory`. Then the headers are discarded, and
     /// nothing else has changed.
-    pub fn invite(&mut self, fields: &InviteFields<'_>) -> Result<Id, HostFault>
-        ensures { TakesCommand (invite_of fields.now) self.old self.new result }
+    pub fn command(&mut self, fields: &CommandFields<'_>) -> Result<Id, HostFault>
+        ensures { TakesCommand (command_of fields.now) self.old self.new result }
     {
-        let made = invite_command(self.alloc, fields);
-        self.ask(made)
-    }
-
-    /// Sends a request outside of any dialog, in the same way as [`Host::invite`].
-    ///
-    /// # Errors
-    ///
-    /// As for [`Host::invite`].
-    pub fn plain(&mut self, fields: &PlainFields<'_>) -> Result<Id, HostFault>
-        ensures { TakesCommand (plain_of fields.now) self.old self.new result }
-    {
-        let made = plain_command(self.alloc, fields);
-        self.ask(made)
-    }
-
-    /// Sends a request in a dialog, in the same way as [`Host::invite`].
-    ///
-    /// # Errors
-    ///
-    /// As for [`Host::invite`].
-    pub fn request(&mut self, fields: &RequestFields<'_>) -> Result<Id, HostFault>
-        ensures { TakesCommand (request_of fields.now) self.old self.new result }
-    {
-        let made = request_command(self.alloc, fields);
-        self.ask(made)
-    }
-
-    /// Sends a response to a request, in the same way as [`Host::invite`].
-    ///
-    /// # Errors
-    ///
-    /// As for [`Host::invite`].
-    pub fn respond(&mut self, fields: &RespondFields<'_>) -> Result<Id, HostFault>
-        ensures { TakesCommand (respond_of fields.now) self.old self.new result }
-    {
-        let made = respond_command(self.alloc, fields);
-        self.ask(made)
-    }
-
-    /// Sends the ACK of the oldest 2xx of a dialog that is owed one, in the same way as
-    /// [`Host::invite`].
-    ///
-    /// # Errors
-    ///
-    /// As for [`Host::invite`].
-    pub fn ack(&mut self, fields: &BodyFields<'_>) -> Result<Id, HostFault>
-        ensures { TakesCommand (ack_of fields.now) self.old self.new result }
-    {
-        let made = ack_command(self.alloc, fields);
-        self.ask(made)
-    }
-
-    /// Sends the PRACK of the oldest provisional response of a dialog that is owed one, in the same
-    /// way as [`Host::invite`].
-    ///
-    /// # Errors
-    ///
-    /// As for [`Host::invite`].
-    pub fn prack(&mut self, fields: &BodyFields<'_>) -> Result<Id, HostFault>
-        ensures { TakesCommand (prack_of fields.now) self.old self.new result }
-    {
-        let made = prack_command(self.alloc, fields);
-        self.ask(made)
-    }
-
-    /// Cancels an INVITE that was sent. A CANCEL takes no headers.
-    ///
-    /// # Errors
-    ///
-    /// As for [`Host::invite`].
-    pub fn cancel(&mut self, fields: &CancelFields<'_>) -> Result<Id, HostFault>
-        ensures { TakesCommand (cancel_of fields.now) self.old self.new result }
-    {
-        let made = cancel_command(self.alloc, fields);
-        self.ask(made)
-    }
-
-    /// Gives up a request that was sent: it is no longer held, and nothing more is sent or told of
-    /// it. Takes no headers.
-    ///
-    /// # Errors
-    ///
-    /// As for [`Host::invite`].
-    pub fn abandon_request(&mut self, fields: &AbandonRequestFields<'_>) -> Result<Id, HostFault>
-        ensures { TakesCommand (abandon_request_of fields.now) self.old self.new result }
-    {
-        let made = abandon_request_command(self.alloc, fields);
-        self.ask(made)
-    }
-
-    /// Gives up a dialog: it ends, and nothing is sent. Takes no headers.
-    ///
-    /// # Errors
-    ///
-    /// As for [`Host::invite`].
-    pub fn abandon_dialog(&mut self, fields: &AbandonDialogFields<'_>) -> Result<Id, HostFault>
-        ensures { TakesCommand (abandon_dialog_of fields.now) self.old self.new result }
-    {
-        let made = abandon_dialog_command(self.alloc, fields);
-        self.ask(made)
+        let headers = self.take_headers();
+        self.has_room()?;
+        let command = command_of(self.alloc, fields)?;
+        let Some(command) = with_given(self.alloc, headers, command)? else {
+            return Err(HostFault::BadField(Field::Headers));
+        };
+        self.events.push(Event::Command(command))?;
+        let round = self.agent.next_round();
+        let place = self.events.len() as u32;
+        Ok(Id { round, place })
     }
 
     /// The output with this index, from 0, of the last round is a send that failed. That is an
@@ -395,9 +296,10 @@ impl Host {
             return Ok(None);
         };
         let head = put_output(self.alloc, index, placed, buffer)?;
-        if buffer.len() >= head.len {
-            self.taken += 1;
+        if buffer.len() < head.len {
+            return Ok(Some(head));
         }
+        self.taken += 1;
         Ok(Some(head))
     }
 
@@ -549,10 +451,10 @@ impl Host {
             × (buffer.new ≡ put_if (option_map start_text says) buffer.old)) }
         ensures same { OnErr result (buffer.new ≡ buffer.old) }
     {
-        let Some(first) = self.start_line(place)? else {
-            return Ok(None);
-        };
-        Ok(Some(put_start(self.alloc, &first, buffer)?))
+        match self.start_line(place)? {
+            Some(first) => Ok(Some(put_start(&first, buffer))),
+            None => Ok(None),
+        }
     }
 
     /// The length of one of the values that [`Host::header_values`] gives, by its number from 0, if
@@ -602,53 +504,38 @@ impl Host {
         ensures same { OnErr result (buffer.new ≡ buffer.old) }
     {
         let lines = self.header_lines(place)?;
-        let Some(line) = lines.as_slice().get(number) else {
-            return Ok(None);
-        };
-        Ok(Some(put_line(self.alloc, line, buffer)?))
+        match lines.as_slice().get(number) {
+            Some(line) => Ok(Some(put_line(line, buffer))),
+            None => Ok(None),
+        }
     }
 
-    /// The length of all values that [`Host::header_values`] gives, as one text: each with a line
-    /// feed behind it, which no value has. It goes to the beginning of the buffer, if it fits.
+    /// All values that [`Host::header_values`] gives, as one text: each with a line feed behind it,
+    /// which no value has.
     ///
     /// # Errors
     ///
-    /// Memory ran out; then nothing was written.
-    pub fn values_text(
-        &self,
-        place: u32,
-        name: &[u8],
-        buffer: &mut [u8],
-    ) -> Result<usize, AllocError>
-        ensures told { IfOk result (λ told. (values : List (List ℕ))
-            × HasValuesAt self.now place name.now values
-            × (told ≡ length (values_text values))
-            × (buffer.new ≡ put_in (values_text values) buffer.old)) }
-        ensures same { OnErr result (buffer.new ≡ buffer.old) }
+    /// Memory ran out.
+    pub fn values_text(&self, place: u32, name: &[u8]) -> Result<Vec<u8>, AllocError>
+        ensures { IfOk result (λ text. (values : List (List ℕ))
+            × HasValuesAt self.now place name.now values × (text.items ≡ values_text values)) }
     {
         let values = self.header_values(place, name)?;
-        let text = texts::values_text(self.alloc, values.as_slice())?;
-        put(&text, buffer);
-        Ok(text.len())
+        texts::values_text(self.alloc, values.as_slice())
     }
 
-    /// The length of all header lines that [`Host::header_lines`] gives, as one text: the name of
-    /// each, a colon, its value and a line feed. It goes to the beginning of the buffer, if it fits.
+    /// All header lines that [`Host::header_lines`] gives, as one text: the name of each, a colon,
+    /// its value and a line feed.
     ///
     /// # Errors
     ///
-    /// Memory ran out; then nothing was written.
-    pub fn lines_text(&self, place: u32, buffer: &mut [u8]) -> Result<usize, AllocError>
-        ensures told { IfOk result (λ told. (lines : List AHeaderLine)
-            × HasLinesAt self.now place lines
-            × (told ≡ length (lines_text lines))
-            × (buffer.new ≡ put_in (lines_text lines) buffer.old)) }
-        ensures same { OnErr result (buffer.new ≡ buffer.old) }
+    /// Memory ran out.
+    pub fn lines_text(&self, place: u32) -> Result<Vec<u8>, AllocError>
+        ensures { IfOk result (λ text. (lines : List AHeaderLine)
+            × HasLinesAt self.now place lines × (text.items ≡ lines_text lines)) }
     {
         let lines = self.header_lines(place)?;
-        let text = texts::lines_text(self.alloc, lines.as_slice())?;
-        put(&text, buffer);
-        Ok(text.len())
+        texts::lines_text(self.alloc, lines.as_slice())
     }
 
     /// Whether a datagram would begin a transaction if it came in the next round: it is a request
@@ -668,22 +555,17 @@ impl Host {
         }
     }
 
-    /// The length of the tag that the agent gives itself where the command with this id sends an
-    /// INVITE, or another request outside of dialogs (RFC 3261, section 8.1.1.3). The tag goes to the
-    /// beginning of the buffer, if it fits. Dialogs are held by it, whatever tag a peer's response
-    /// has in its place.
+    /// The tag that the agent gives itself where the command with this id sends an INVITE, or
+    /// another request outside of dialogs (RFC 3261, section 8.1.1.3). Dialogs are held by it,
+    /// whatever tag a peer's response has in its place.
     ///
     /// # Errors
     ///
-    /// Memory ran out; then nothing was written.
-    pub fn opening_tag(&self, id: Id, buffer: &mut [u8]) -> Result<usize, AllocError>
-        ensures told { IfOk result (λ told. let tag = opening_tag self.now.agent.calls.seed id in
-            (told ≡ length tag) × (buffer.new ≡ put_in tag buffer.old)) }
-        ensures same { OnErr result (buffer.new ≡ buffer.old) }
+    /// Memory ran out.
+    pub fn opening_tag(&self, id: Id) -> Result<Token, AllocError>
+        ensures { IfOk result (λ tag. tag ≡ opening_tag self.now.agent.calls.seed id) }
     {
-        let tag = self.agent.opening_tag(id)?;
-        put(tag.as_slice(), buffer);
-        Ok(tag.as_slice().len())
+        self.agent.opening_tag(id)
     }
 
     /// The id of the event that was given last, if the next round has one. Notices about a
@@ -710,22 +592,6 @@ impl Host {
             → StandsFor shard_of self.now.agent config rounds → IsDueAfter config rounds due) }
     {
         self.agent.next_due()
-    }
-
-    // Asks for a command that was made of fields, unless that failed.
-    fn ask(&mut self, made: Result<UserCommand, HostFault>) -> Result<Id, HostFault>
-        ensures { (wanted : AUserCommand) → Makes wanted made
-            → TakesCommand wanted self.old self.new result }
-    {
-        let headers = self.take_headers();
-        let command = self.with_room(made)?;
-        let Some(command) = with_given(self.alloc, headers, command)? else {
-            return Err(HostFault::BadField(Field::Headers));
-        };
-        self.events.push(Event::Command(command))?;
-        let round = self.agent.next_round();
-        let place = self.events.len() as u32;
-        Ok(Id { round, place })
     }
 
     // Takes the headers of the next command, which has none after that.
@@ -782,18 +648,6 @@ impl Host {
         self.has_room()?;
         self.events.push(event)?;
         Ok(())
-    }
-
-    // What was made, if the next round has room for one more event.
-    fn with_room(&self, made: Result<UserCommand, HostFault>) -> Result<UserCommand, HostFault>
-        ensures { result ≡ (if nat_lt (length self.now.events) 65536 then made
-            else Err fault.TooManyEvents) }
-    {
-        if self.events.len() < MAX_EVENTS_OF_ROUND {
-            made
-        } else {
-            Err(HostFault::TooManyEvents)
-        }
     }
 
     // Whether the next round has room for one more event.

@@ -22,8 +22,8 @@ mod start_length;
 pub use addresses::{AddressLength, address_at, party_in};
 pub use field::Field;
 pub use fields::{
-    AbandonDialogFields, AbandonRequestFields, BodyFields, CancelFields, InviteFields, PlainFields,
-    RequestFields, RespondFields,
+    AbandonDialogFields, AbandonRequestFields, BodyFields, CancelFields, CommandFields,
+    InviteFields, PlainFields, RequestFields, RespondFields,
 };
 pub use handing::put;
 pub use holdings::Holdings;

@@ -11,7 +11,7 @@ use sip_reader::read;
 use std::alloc::{AllocError, Global};
 
 /// What a request says of itself.
-#[derive(Clone, Copy, PartialEq, Eq)]
+#[derive(Clone, Copy)]
 pub struct RequestTraits {
     /// It has a To tag, and so was sent in a dialog: an INVITE is a re-INVITE (RFC 3261, section
     /// 12.2.2).
