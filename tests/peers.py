@@ -96,6 +96,29 @@ def a_listener_that_holds_enough_sheds_requests():
     expect_in_order("counts", [", 1 shed\n"], ended.errors)
 
 
+def more_vias(count):
+    """Header lines with so many Via values, behind the top one."""
+    return count * "Via: SIP/2.0/UDP 192.0.2.1;branch=z9hG4bKx\r\n"
+
+
+@test
+def a_request_that_is_too_large_begins_nothing():
+    """It has more bytes than `--largest` says; or more Via values than `--vias`, and over 1,200
+    bytes."""
+    words = ["--local", ANY, "--largest", "3000", "--vias", "9", "--stats"]
+    with Running("listen", *words) as listener, Peer(listener.ready()) as peer:
+        peer.ask("OPTIONS", "c1", body=3000 * "x")
+        peer.ask("OPTIONS", "c2", body=1200 * "x", headers=more_vias(9))
+        peer.ask("OPTIONS", "c3", body=1200 * "x", headers=more_vias(8))
+        is_answered(peer, "200", "c3")
+        peer.ask("OPTIONS", "c4", headers=more_vias(9))
+        is_answered(peer, "200", "c4")
+        listener.end_input()
+        ended = listener.ended()
+    expect("status", 0, ended.status)
+    expect_in_order("counts", [", 2 shed\n"], ended.errors)
+
+
 @test
 def a_long_datagram_is_heard_whole():
     """One that was cut would be dropped, since its body would be too short."""

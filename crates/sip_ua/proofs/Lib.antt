@@ -1,7 +1,6 @@
-pub mod Help
 pub mod LastHeaders
 pub mod NoFile
 pub mod Repairs
-pub mod SessionOption
 pub mod Streamed
 pub mod WholeLines
+pub mod WordTexts

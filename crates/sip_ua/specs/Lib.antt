@@ -1,3 +1,4 @@
+pub mod CutName
 pub mod EventsStatus
 pub mod Inputs
 pub mod Repair

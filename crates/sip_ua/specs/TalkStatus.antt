@@ -5,8 +5,8 @@
 use Rattle.std.specs.Prelude.{ℕ}
 use Rattle.sip_udp.specs.declared.fault.UaFault.{UaFault}
 use Rattle.sip_udp.specs.declared.fault.UaFault.TheVariants as ua
-use Rattle.sip_ua.specs.declared.talk_fault.TalkFault.{TalkFault}
-use Rattle.sip_ua.specs.declared.talk_fault.TalkFault.TheVariants.{BadArgument, Random, Ua}
+use Rattle.sip_ua.specs.declared.failure.TalkFault.{TalkFault}
+use Rattle.sip_ua.specs.declared.failure.TalkFault.TheVariants.{BadArgument, Ua}
 use Rattle.sip_ua.specs.RoundStatus.{round_status}
 
 abbrev pub ua_status : UaFault → ℕ
@@ -22,5 +22,4 @@ ua_status ua.NoMemory = 5
 
 abbrev pub talk_status : TalkFault → ℕ
 talk_status BadArgument = 2
-talk_status Random = 4
 talk_status (Ua fault) = ua_status fault

@@ -10,23 +10,19 @@ abbrev pub asks_command : List ℕ → List (List ℕ) → Bool
 asks_command name [] = false
 asks_command name (word ∷ words) = bytes_eq word name
 
-abbrev pub is_help_option : List ℕ → Bool
-is_help_option word =
-    bytes_eq word (codes "--help") || (bytes_eq word (codes "-h")
-    || (bytes_eq word (codes "--version") || bytes_eq word (codes "-V")))
+-- one of the words is this one
+abbrev pub has_word : List ℕ → List (List ℕ) → Bool
+has_word wanted words = list_any (λ word. bytes_eq word wanted) words
 
 -- help or the version, asked for by the command `help` or by an option anywhere
 abbrev pub asks_help : List (List ℕ) → Bool
-asks_help words = asks_command (codes "help") words || list_any is_help_option words
-
-abbrev pub is_repair_option : List ℕ → Bool
-is_repair_option word = bytes_eq word (codes "--repair")
-
-abbrev pub is_streamed_option : List ℕ → Bool
-is_streamed_option word = bytes_eq word (codes "--streamed")
+asks_help words =
+    asks_command (codes "help") words || (has_word (codes "--help") words
+    || (has_word (codes "-h") words
+    || (has_word (codes "--version") words || has_word (codes "-V") words)))
 
 abbrev pub asks_streamed : List (List ℕ) → Bool
-asks_streamed words = list_any is_streamed_option words
+asks_streamed words = has_word (codes "--streamed") words
 
 -- the command, and not its help, for a whole file
 abbrev pub asks_replay : List (List ℕ) → Bool
@@ -39,15 +35,12 @@ asks_stream words =
     not (asks_help words) && (asks_command (codes "replay") words && asks_streamed words)
 
 abbrev pub asks_repair : List (List ℕ) → Bool
-asks_repair words = list_any is_repair_option words
+asks_repair words = has_word (codes "--repair") words
 
 abbrev pub asks_ladder : List (List ℕ) → Bool
 asks_ladder words = not (asks_help words) && asks_command (codes "ladder") words
 
-abbrev pub is_session_option : List ℕ → Bool
-is_session_option word = bytes_eq word (codes "--session")
-
 -- a session if one of the words is its option
 abbrev pub kind_asked : List (List ℕ) → FileKind
 kind_asked words =
-    if list_any is_session_option words then file_kind.Session else file_kind.Events
+    if has_word (codes "--session") words then file_kind.Session else file_kind.Events

@@ -1,14 +1,24 @@
-//! A fault, with what is known about its cause.
+//! Why `ua listen`, `ua call`, `ua agent` or `ua compact` stopped, and what is known about the
+//! cause.
 
 ghost use Rattle.std.specs.Prelude.{◌≡◌};
 
-use crate::talk_fault::TalkFault;
-use sip_message::Addr;
 use sip_udp::UaFault;
 use std::alloc::AllocError;
 use std::{fmt, io};
+use thiserror::Error;
 
-/// Why `ua listen`, `ua call` or `ua agent` stopped, and what is known about the cause.
+/// Why a command stopped.
+#[derive(Clone, Copy, Debug, Error)]
+pub(crate) enum TalkFault {
+    /// The word of an option isn't what it has to be.
+    #[error("bad argument")]
+    BadArgument,
+    #[error(transparent)]
+    Ua(UaFault),
+}
+
+/// Why a command stopped, and what is known about the cause.
 #[derive(Clone, Copy)]
 pub(crate) struct Failure<'a> {
     pub(crate) fault: TalkFault,
@@ -30,45 +40,73 @@ pub(crate) enum Cause<'a> {
         path: &'a str,
         error: io::Error,
     },
-    /// What the system says about an address.
-    Address {
-        address: Addr,
-        error: io::Error,
-    },
-    /// What the system says about one of its own streams or sources.
-    Stream {
+    /// What the system says about an address, or about one of its own streams or sources.
+    System {
         name: &'a str,
         error: io::Error,
     },
 }
 
 impl<'a> Failure<'a> {
-    /// A fault with this cause.
-    pub(crate) fn new(fault: TalkFault, cause: Cause<'a>) -> Failure<'a>
-        ensures { result.fault ≡ fault }
-    {
+    /// The failure for an option whose word isn't what it has to be.
+    pub(crate) fn of_word(option: &'a str, word: &'a str, wanted: &'a str) -> Failure<'a> {
         Failure {
-            fault,
-            cause: Some(cause),
+            fault: TalkFault::BadArgument,
+            cause: Some(Cause::Word {
+                option,
+                word,
+                wanted,
+            }),
         }
     }
 
-    /// A fault without a known cause.
-    pub(crate) fn unknown(fault: TalkFault) -> Failure<'a>
-        ensures { result.fault ≡ fault }
-    {
-        Failure { fault, cause: None }
+    /// The failure for the file of an option.
+    pub(crate) fn of_file(
+        fault: UaFault,
+        option: &'a str,
+        path: &'a str,
+        error: io::Error,
+    ) -> Failure<'a> {
+        Failure {
+            fault: TalkFault::Ua(fault),
+            cause: Some(Cause::File {
+                option,
+                path,
+                error,
+            }),
+        }
+    }
+
+    /// The failure for an address, or for a stream or a source of the system.
+    pub(crate) fn of_system(fault: UaFault, name: &'a str, error: io::Error) -> Failure<'a> {
+        Failure {
+            fault: TalkFault::Ua(fault),
+            cause: Some(Cause::System { name, error }),
+        }
+    }
+}
+
+impl<'a> From<UaFault> for Failure<'a> {
+    ghost use Rattle.sip_ua.specs.declared.failure.TalkFault.TheVariants.{Ua};
+
+    ghost from_gives = { λ given failure. failure.fault ≡ Ua given };
+
+    fn from(fault: UaFault) -> Failure<'a> {
+        Failure {
+            fault: TalkFault::Ua(fault),
+            cause: None,
+        }
     }
 }
 
 impl<'a> From<AllocError> for Failure<'a> {
-    ghost use Rattle.sip_ua.specs.declared.talk_fault.TalkFault.TheVariants.{Ua};
+    ghost use Rattle.sip_ua.specs.declared.failure.TalkFault.TheVariants.{Ua};
     ghost use Rattle.sip_udp.specs.declared.fault.UaFault.TheVariants.{NoMemory};
 
     ghost from_gives = { λ _ failure. failure.fault ≡ Ua NoMemory };
 
     fn from(_error: AllocError) -> Failure<'a> {
-        Failure::unknown(TalkFault::Ua(UaFault::NoMemory))
+        Failure::from(UaFault::NoMemory)
     }
 }
 
@@ -85,8 +123,7 @@ impl fmt::Display for Cause<'_> {
                 path,
                 error,
             } => write!(f, "{option} {path}: {error}"),
-            Cause::Address { address, error } => write!(f, "{address}: {error}"),
-            Cause::Stream { name, error } => write!(f, "{name}: {error}"),
+            Cause::System { name, error } => write!(f, "{name}: {error}"),
         }
     }
 }

@@ -1,20 +1,21 @@
 //! `ua`: a SIP user agent over UDP, which also runs on event files.
 #![tactic(auto)]
 
+mod address;
 mod compacting;
-mod data_file;
+mod cut_name;
 mod failure;
 mod host;
-mod journal_file;
 mod journalled_call;
 mod noting;
 mod options;
+mod plan;
 mod program;
 mod receive_buffer;
 mod repair;
+mod run_file;
 mod shortening;
 mod status;
-mod talk_fault;
 mod talking;
 mod words;
 

@@ -2,13 +2,14 @@
 
 ghost use Rattle.std.specs.Prelude.{◌≡◌};
 
+use crate::failure::Cause;
 use std::io::{self, Read};
 
-/// A reader that keeps the error of the last read that failed.
+/// Reads standard input. Keeps the error of the last read that failed.
 #[derive(Drop)]
 pub(crate) struct NotingRead<R> {
     reader: R,
-    pub(crate) error: Option<io::Error>,
+    pub(crate) cause: Option<Cause<'static>>,
 }
 
 impl<R> NotingRead<R> {
@@ -18,7 +19,7 @@ impl<R> NotingRead<R> {
     {
         NotingRead {
             reader,
-            error: None,
+            cause: None,
         }
     }
 }
@@ -29,7 +30,10 @@ impl<R: Read> Read for NotingRead<R> {
     fn read(&mut self, buf: &mut [u8]) -> io::Result<usize> {
         let result = self.reader.read(buf);
         if let Err(error) = &result {
-            self.error = Some(*error);
+            self.cause = Some(Cause::System {
+                name: "standard input",
+                error: *error,
+            });
         }
         result
     }

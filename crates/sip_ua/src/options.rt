@@ -1,18 +1,21 @@
 //! The commands of `ua` and their options, as the words of the command line are checked.
 
+ghost use Rattle.std.specs.Prelude.{◌<◌, ◌≤◌};
+
 use clap::builder::ValueParser;
 use clap::{Arg, ArgAction, ArgMatches, Command, Error};
+use sip_udp::Division;
 use std::alloc::{AllocError, Global};
 use std::convert::AsStr;
 
 /// The maximum number of shards.
-pub(crate) const MAX_SHARDS: usize = 256;
+const MAX_SHARDS: usize = 256;
 
 /// The maximum number of workers.
-pub(crate) const MAX_WORKERS: usize = 64;
+const MAX_WORKERS: usize = 64;
 
 /// The maximum number of agents.
-pub(crate) const MAX_AGENTS: usize = 16;
+const MAX_AGENTS: usize = 16;
 
 /// The text of `ua --version`.
 const VERSION: &str = "1.0";
@@ -234,6 +237,8 @@ const LISTEN: &[OptionRow] = &[
         help: "Exit with status 6 if fewer than N calls got a 2xx",
         ..NUMBER
     },
+    LARGEST,
+    VIAS,
     DROPS,
     RECORD,
     JOURNAL,
@@ -296,6 +301,8 @@ const CALL: &[OptionRow] = &[
         ..BODY
     },
     DROPS,
+    LARGEST,
+    VIAS,
     RECORD,
     JOURNAL,
     SYNC,
@@ -331,6 +338,8 @@ const AGENT: &[OptionRow] = &[
             that are no command have none, but a message on standard error",
         ..FLAG
     },
+    LARGEST,
+    VIAS,
     RECORD,
     JOURNAL,
     SYNC,
@@ -410,6 +419,23 @@ const BODY: OptionRow = OptionRow {
     ..TEXT
 };
 
+const LARGEST: OptionRow = OptionRow {
+    name: "largest",
+    value: &["BYTES"],
+    default: &["16384"],
+    help: "Ignore a request that is longer, if it would begin a transaction",
+    ..NUMBER
+};
+
+const VIAS: OptionRow = OptionRow {
+    name: "vias",
+    value: &["N"],
+    default: &["70"],
+    help: "Ignore a request with more Via values, which each response repeats, if it is over 1200 \
+        bytes and would begin a transaction",
+    ..NUMBER
+};
+
 const DROPS: OptionRow = OptionRow {
     name: "drops",
     help: "Print a line for each dropped datagram too, but not for keep-alives",
@@ -455,13 +481,20 @@ const STATS: OptionRow = OptionRow {
     ..FLAG
 };
 
-/// Reads the words as those of one of the commands.
+/// Reads the words as those of one of the commands. Gives its name and its options.
 ///
 /// # Errors
 ///
 /// The error that `clap` finds in them. It may also be the help that they ask for.
-pub(crate) fn parse<'a, S: AsStr>(alloc: Global, words: &'a [S]) -> Result<ArgMatches<'a>, Error> {
-    program(alloc)?.try_get_matches_from(words)
+pub(crate) fn parse<'a, S: AsStr>(
+    alloc: Global,
+    words: &'a [S],
+) -> Result<(&'a str, ArgMatches<'a>), Error> {
+    let mut program = program(alloc)?.try_get_matches_from(words)?;
+    match program.remove_subcommand() {
+        Some(command) => Ok(command),
+        None => Ok(("", program)),
+    }
 }
 
 fn program<'a>(alloc: Global) -> Result<Command<'a>, AllocError> {
@@ -580,4 +613,41 @@ fn argument<'a>(alloc: Global, row: OptionRow) -> Result<Arg<'a>, AllocError> {
         .help(row.help)
         .conflicts_with_all(row.excludes)?
         .requires_all(row.needs)
+}
+
+/// The text of an option that `clap` requires, or that has a usual one.
+pub(crate) fn text_of<'a>(options: &ArgMatches<'a>, id: &str) -> &'a str {
+    options.get_str(id).unwrap_or("")
+}
+
+/// The number of an option that has a usual one.
+pub(crate) fn number_of(options: &ArgMatches, id: &str) -> u32 {
+    options.get_one::<u32>(id).unwrap_or(0)
+}
+
+/// How the work is divided.
+pub(crate) fn division(options: &ArgMatches) -> Division {
+    let Division {
+        agents,
+        shards,
+        workers,
+    } = Division::USUAL;
+    Division {
+        agents: count(options, "agents", MAX_AGENTS, agents),
+        shards: count(options, "shards", MAX_SHARDS, shards),
+        workers: count(options, "workers", MAX_WORKERS, workers),
+    }
+}
+
+// The number of an option, or the usual one. `clap` has checked that it is in its range.
+fn count(options: &ArgMatches, id: &str, most: usize, usual: usize) -> usize
+    requires some { 0 < usual }
+    requires in_range { usual ≤ most }
+    ensures some { 0 < result }
+    ensures most { result ≤ most }
+{
+    match options.get_one::<usize>(id) {
+        Some(count) if (1..=most).contains(&count) => count,
+        _ => usual,
+    }
 }

@@ -14,25 +14,23 @@ ghost use Rattle.sip_round.specs.declared.round.Round.{Round};
 ghost use Rattle.sip_stream.specs.Streams.{ComesOnly, IsStream, StreamsAll, StreamsFront, TellsStream};
 ghost use Rattle.sip_files.specs.declared.file_replay.ReplayFault.TheVariants as replay_fault;
 
-use crate::failure::Failure;
+use crate::cut_name::CutName;
 use crate::host::Host;
 use crate::noting::NotingRead;
+use crate::options::{division, parse};
 use crate::repair::whole;
-use crate::status::{finish, finish_stream, finish_talk, show, tell_words};
-use crate::talk_fault::TalkFault;
+use crate::status::{finish, tell_help, tell_words};
 use crate::talking::talk_by;
-use crate::words::{
-    CutName, ReplayWords, asks_help, asks_ladder, asks_repair, asks_replay, asks_stream,
-    command_words, kind_asked,
-};
+use crate::words::{Asked, asks_repair, command_asked, kind_asked};
+use clap::ArgMatches;
 use sip_files::{FileKind, ReplayFault, read_all, replay};
 use sip_ladder::ladder;
-use sip_message::{First, Spread};
 use sip_round::OpenGate;
-use sip_stream::{StreamFault, replay_streamed};
+use sip_stream::replay_streamed;
+use sip_udp::Division;
 use std::alloc::Global;
 use std::convert::AsStr;
-use std::io::{self, Read, Write};
+use std::io::{Read, Write};
 use std::thread::Threads;
 
 /// All that the program does, from its words to its status. The words don't include the program's
@@ -118,35 +116,25 @@ pub fn ua<T: Threads + Host, S: AsStr, R: Read, W: Write, E: Write>(
         → output.new ≡ output.old }
     ensures bad_words { result ≡ 2 → output.new ≡ output.old }
 {
-    let asked = match command_words(alloc, words) {
-        Ok(asked) => asked,
-        Err(error) if asks_help(words) && !error.use_stderr() => {
-            return show(&error, output, errors);
+    let asked = command_asked(words);
+    let (command, options) = match parse(alloc, words) {
+        Ok(found) => found,
+        Err(error) => {
+            return match asked {
+                Asked::Help => tell_help(&error, output, errors),
+                _ => tell_words(&error, errors),
+            };
         }
-        Err(error) => return tell_words(&error, errors),
     };
-    if asks_help(words) {
-        return finish_talk(Err(Failure::unknown(TalkFault::BadArgument)), errors);
-    }
     let kind = kind_asked(words);
-    if asks_replay(words) {
-        let repairs = asks_repair(words);
-        replay_input(
-            rt,
-            alloc,
-            kind,
-            repairs,
-            asked.replay,
-            input,
-            output,
-            errors,
-        )
-    } else if asks_stream(words) {
-        stream_input(rt, alloc, kind, asked.replay, input, output, errors)
-    } else if asks_ladder(words) {
-        draw_input(rt, alloc, kind, input, output, errors)
-    } else {
-        finish_talk(talk_by(rt, alloc, asked.talk, errors), errors)
+    match asked {
+        Asked::Replay => {
+            let repairs = asks_repair(words);
+            replay_input(rt, alloc, kind, repairs, &options, input, output, errors)
+        }
+        Asked::Stream => stream_input(rt, alloc, kind, &options, input, output, errors),
+        Asked::Ladder => draw_input(rt, alloc, kind, input, output, errors),
+        Asked::Help | Asked::Talk => talk_by(rt, alloc, command, &options, errors),
     }
 }
 
@@ -156,7 +144,7 @@ fn replay_input<T: Threads + Sync, R: Read, W: Write, E: Write>(
     alloc: Global,
     kind: FileKind,
     repairs: bool,
-    words: ReplayWords,
+    words: &ArgMatches,
     input: &mut R,
     output: &mut W,
     errors: &mut E,
@@ -177,7 +165,7 @@ fn replay_input<T: Threads + Sync, R: Read, W: Write, E: Write>(
 {
     let mut input = NotingRead::new(input);
     let end = replay_by(rt, alloc, kind, repairs, words, &mut input, output, errors);
-    finish_file(end, input.error, errors)
+    finish(end, input.cause, errors)
 }
 
 // Replays the input round by round, and gives the status of the end.
@@ -185,7 +173,7 @@ fn stream_input<T: Threads + Sync, R: Read, W: Write, E: Write>(
     rt: &T,
     alloc: Global,
     kind: FileKind,
-    words: ReplayWords,
+    words: &ArgMatches,
     input: &mut R,
     output: &mut W,
     errors: &mut E,
@@ -201,11 +189,16 @@ fn stream_input<T: Threads + Sync, R: Read, W: Write, E: Write>(
     ensures words { result ≢ 2 }
 {
     let mut input = NotingRead::new(input);
-    let end = stream_by(rt, alloc, kind, words, &mut input, output);
-    let is_unread = end == Err(StreamFault::Input);
-    let status = finish_stream(end, errors);
-    tell_unread(is_unread, input.error, errors);
-    status
+    let Division {
+        shards,
+        workers,
+        ..
+    } = division(words);
+    let cut = CutName::asked(words);
+    let end = replay_streamed(
+        rt, alloc, kind, &mut input, output, shards, workers, cut, &OpenGate,
+    );
+    finish(end, input.cause, errors)
 }
 
 // Draws the ladder of the input, and gives the status of the end.
@@ -225,32 +218,7 @@ fn draw_input<T: Threads + Sync, R: Read, W: Write, E: Write>(
 {
     let mut input = NotingRead::new(input);
     let end = ladder(rt, alloc, kind, &mut input, output, &OpenGate);
-    finish_file(end, input.error, errors)
-}
-
-// Writes the fault of a replay and the error of a read that failed, and gives the status of the
-// end.
-fn finish_file<E: Write>(
-    end: Result<(), ReplayFault>,
-    unread: Option<io::Error>,
-    errors: &mut E,
-) -> u8
-    ensures { MatchResult end (λ _. result ≡ 0) (λ fault. result ≡ fault_status fault) }
-{
-    let is_unread = end == Err(ReplayFault::Input);
-    let status = finish(end, errors);
-    tell_unread(is_unread, unread, errors);
-    status
-}
-
-// Writes the error of a read, if that is why the program ends.
-fn tell_unread<E: Write>(is_unread: bool, unread: Option<io::Error>, errors: &mut E) {
-    match unread {
-        Some(error) if is_unread => {
-            let _ = writeln!(errors, "ua: standard input: {error}");
-        }
-        _ => {}
-    }
+    finish(end, input.cause, errors)
 }
 
 // Replays the input, or only what is whole of it. It then says how many bytes are left out.
@@ -259,7 +227,7 @@ fn replay_by<T: Threads + Sync, R: Read, W: Write, E: Write>(
     alloc: Global,
     kind: FileKind,
     repairs: bool,
-    words: ReplayWords,
+    words: &ArgMatches,
     input: &mut R,
     output: &mut W,
     errors: &mut E,
@@ -276,87 +244,28 @@ fn replay_by<T: Threads + Sync, R: Read, W: Write, E: Write>(
         (λ text. WritesFront kind (W.contents output.old) (W.contents output.new)
         (replayed kind repairs text)) }
 {
+    let Division {
+        shards,
+        workers,
+        ..
+    } = division(words);
+    let cut = CutName::asked(words);
     if !repairs {
-        return replay_all(rt, alloc, kind, words, input, output);
+        return replay(
+            rt, alloc, kind, input, output, shards, workers, cut, &OpenGate,
+        );
     }
     let text = read_all(alloc, input)?;
     let mut front = whole(kind, text.as_slice());
     tell_left_out(text.len().saturating_sub(front.len()), errors);
-    replay_all(rt, alloc, kind, words, &mut front, output)
+    replay(
+        rt, alloc, kind, &mut front, output, shards, workers, cut, &OpenGate,
+    )
 }
 
 // Tells how many bytes at the end a repair leaves out, where there are some.
 fn tell_left_out<E: Write>(left_out: usize, errors: &mut E) {
     if left_out > 0 {
         let _ = writeln!(errors, "ua: {left_out} bytes at the end left out");
-    }
-}
-
-// Replays the input as the words say.
-fn replay_all<T: Threads + Sync, R: Read, W: Write>(
-    rt: &T,
-    alloc: Global,
-    kind: FileKind,
-    words: ReplayWords,
-    input: &mut R,
-    output: &mut W,
-) -> Result<(), ReplayFault>
-    ensures replays { OnOk result (IfSome (R.remaining input.old)
-        (WritesAll kind (W.contents output.old) (W.contents output.new))) }
-    ensures fault { IfErr result
-        (λ fault. IfSome (R.remaining input.old) (TellsReplay kind fault)) }
-    ensures unwritten { IfErr result
-        (λ fault. fault ≢ replay_fault.Output → output.new ≡ output.old) }
-    ensures front { result ≡ Err replay_fault.Output
-        → IfSome (R.remaining input.old)
-        (WritesFront kind (W.contents output.old) (W.contents output.new)) }
-{
-    let ReplayWords {
-        shards,
-        workers,
-        cut,
-    } = words;
-    match cut {
-        CutName::Spread => {
-            replay(
-                rt, alloc, kind, input, output, shards, workers, Spread, &OpenGate,
-            )
-        }
-        CutName::First => replay(
-            rt, alloc, kind, input, output, shards, workers, First, &OpenGate,
-        ),
-    }
-}
-
-// Replays the input round by round, as the words say.
-fn stream_by<T: Threads + Sync, R: Read, W: Write>(
-    rt: &T,
-    alloc: Global,
-    kind: FileKind,
-    words: ReplayWords,
-    input: &mut R,
-    output: &mut W,
-) -> Result<(), StreamFault>
-    ensures replays { OnOk result (IfSome (R.remaining input.old)
-        (StreamsAll kind (W.contents output.old) (W.contents output.new))) }
-    ensures front { OnErr result (IfSome (R.remaining input.old)
-        (StreamsFront kind (W.contents output.old) (W.contents output.new))) }
-    ensures fault { IfErr result
-        (λ fault. IfSome (R.remaining input.old) (TellsStream kind fault)) }
-    ensures only { IfErr result
-        (λ fault. IfSome (R.remaining input.old) (ComesOnly kind fault)) }
-{
-    let ReplayWords {
-        shards,
-        workers,
-        cut,
-    } = words;
-    match cut {
-        CutName::Spread => replay_streamed(
-            rt, alloc, kind, input, output, shards, workers, Spread, &OpenGate,
-        ),
-        CutName::First => replay_streamed(
-            rt, alloc, kind, input, output, shards, workers, First, &OpenGate,
-        ),
     }
 }

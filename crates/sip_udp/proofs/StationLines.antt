@@ -100,6 +100,6 @@ some_end items firsts lasts lines (Some es) posts keeps all =
     ends_of_desks firsts lasts lines (items es) posts keeps all
 
 -- a station that stays as it is keeps its line
-pub keeps_same : {U : Type 0} (other : OtherStation U) → KeepsItsLine other other
+pub keeps_same : (other : OtherStation) → KeepsItsLine other other
 keeps_same other =
     record { count = refl; posters = λ poster is. is; ends = λ ended is. is }

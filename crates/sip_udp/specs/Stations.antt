@@ -8,11 +8,11 @@ use Rattle.sip_udp.specs.declared.other_station.OtherStation.{OtherStation}
 use Rattle.sip_udp.specs.declared.station.Station.{Station}
 
 -- the desks of all stations: the caller's own, and those of the others
-abbrev pub desks_of : {U F : Type 0} → Station U F → List (OtherStation U) → List (Desk Event)
+abbrev pub desks_of : {F : Type 0} → Station F → List OtherStation → List (Desk Event)
 desks_of own others = own.desk ∷ map (λ other. other.station.desk) others
 
 -- the station has the line that it had
-abbrev pub KeepsItsLine : {U : Type 0} → OtherStation U → OtherStation U → Type 0
+abbrev pub KeepsItsLine : OtherStation → OtherStation → Type 0
 KeepsItsLine old new = KeepsLines old.station.desk new.station.desk
 
 -- the end, unless the desk is gone, belongs to a line of the desk

@@ -1,7 +1,8 @@
-//! Which datagrams get into the rounds of an agent that holds much.
+//! Which datagrams get into the rounds of an agent: those that would begin a transaction may not be
+//! too large, and not too many.
 
 ghost use Rattle.std.specs.Prelude.{◌≡◌, ◌+◌, ◌-◌, ◌^◌, ◌++◌, ◌∷◌, [], IfOk, List, Ok, OnOk, filter, length, min, not};
-ghost use Rattle.std.specs.Option.{option_map};
+ghost use Rattle.std.specs.List.{list_all};
 ghost use Rattle.sip_reader.specs.ReadMessage.{Gives, message_at};
 ghost use Rattle.sip_round.specs.Answers.{StandsFor, past_of};
 ghost use Rattle.sip_round.specs.Live.{live_of};
@@ -26,29 +27,58 @@ pub(crate) enum Load {
     Full,
 }
 
-/// How many transactions an agent is to hold, and how many datagrams were shed for that.
+/// Up to how many bytes a datagram is let in without a look at its Via values. Its responses repeat
+/// them, so that a few bytes of a repeat could send many.
+const USUAL_LENGTH: usize = 1200;
+
+/// What a request may have that would begin a transaction.
+#[derive(Clone, Copy)]
+pub struct RequestLimits {
+    /// How many bytes.
+    pub largest: u32,
+    /// How many Via values, if it has more than 1,200 bytes.
+    pub vias: u32,
+}
+
+impl RequestLimits {
+    /// The usual ones.
+    pub const USUAL: RequestLimits = RequestLimits {
+        largest: 16_384,
+        vias: 70,
+    };
+}
+
+/// How many transactions an agent is to hold, what may begin one, and how many datagrams were shed.
 #[derive(Clone, Copy)]
 pub(crate) struct Admission {
     most: Option<u32>,
+    limits: RequestLimits,
     shed: u64,
 }
 
 impl Admission {
-    /// At a load of `most` transactions, requests that would begin one are shed, unless they are of
-    /// a call that stands; at twice that load these are shed too. With `None` nothing is shed.
-    pub(crate) fn new(most: Option<u32>) -> Admission
-        ensures { result.most ≡ most }
+    /// Requests above the limits that would begin a transaction are shed. At a load of `most`
+    /// transactions all others are, too, unless they are of a call that stands; at twice that load
+    /// also these. With `None` any load is a low one.
+    pub(crate) fn new(most: Option<u32>, limits: RequestLimits) -> Admission
+        ensures most { result.most ≡ most }
+        ensures limits { result.limits ≡ limits }
     {
-        Admission { most, shed: 0 }
+        Admission {
+            most,
+            limits,
+            shed: 0,
+        }
     }
 
-    /// How many datagrams were shed, if there is a limit.
+    /// How many datagrams were shed, if any were or might have been for the load.
     pub(crate) fn shed(self) -> Option<u64>
-        ensures { result ≡ option_map (λ most. self.shed) self.most }
+        ensures { result ≡ spec.shed_told self.most self.shed }
     {
-        match self.most {
-            Some(_) => Some(self.shed),
-            None => None,
+        if self.most.is_some() || self.shed > 0 {
+            Some(self.shed)
+        } else {
+            None
         }
     }
 
@@ -63,37 +93,31 @@ impl Admission {
         agent: &Agent<Spread>,
         events: Vec<Event>,
     ) -> Result<Vec<Event>, AllocError>
-        ensures same { self.new.most ≡ self.old.most }
+        ensures most { self.new.most ≡ self.old.most }
+        ensures limits { self.new.limits ≡ self.old.limits }
         ensures admitted { IfOk result (λ admitted. (config : AConfig) (rounds : List ARound)
             → StandsFor shard_of agent.now config rounds
-            → admitted.items ≡ filter (λ event. not (is_shed config rounds
+            → admitted.items ≡ filter (λ event. not (is_shed config rounds self.old.limits
             (spec.load_of self.old.most (live_of config (past_of config rounds)).0) event))
             events.items) }
         ensures count { IfOk result (λ admitted. self.new.shed
             ≡ spec.shed_after self.old.shed (length events.items) (length admitted.items)) }
     {
         let load = load_of(self.most, agent.live().0);
-        let count = events.len();
-        let admitted = admitted_by(alloc, agent, load, events)?;
-        self.count_shed(count, admitted.len());
+        let given = events.len();
+        let admitted = admitted_by(alloc, agent, self.limits, load, events)?;
+        let shed = given.saturating_sub(admitted.len()) as u64;
+        self.shed = self.shed.saturating_add(shed);
         Ok(admitted)
     }
 
     /// Counts what another agent shed as well.
     pub(crate) fn add(&mut self, other: Admission)
-        ensures same { self.new.most ≡ self.old.most }
+        ensures most { self.new.most ≡ self.old.most }
+        ensures limits { self.new.limits ≡ self.old.limits }
         ensures sum { self.new.shed ≡ min (self.old.shed + other.shed) (2 ^ 64 - 1) }
     {
         self.shed = self.shed.saturating_add(other.shed);
-    }
-
-    // Counts what was shed of so many events, of which so many were admitted.
-    fn count_shed(&mut self, given: usize, admitted: usize)
-        ensures same { self.new.most ≡ self.old.most }
-        ensures count { self.new.shed ≡ spec.shed_after self.old.shed given admitted }
-    {
-        let shed = given.saturating_sub(admitted) as u64;
-        self.shed = self.shed.saturating_add(shed);
     }
 }
 
@@ -113,39 +137,25 @@ fn load_of(most: Option<u32>, held: u128) -> Load
     }
 }
 
-// The events without the datagrams that are shed at this load: all of them at a low one.
+// The events without the datagrams that are shed at this load.
 fn admitted_by(
     alloc: Global,
     agent: &Agent<Spread>,
+    limits: RequestLimits,
     load: Load,
     events: Vec<Event>,
 ) -> Result<Vec<Event>, AllocError>
     ensures { IfOk result (λ admitted. (config : AConfig) (rounds : List ARound)
         → StandsFor shard_of agent.now config rounds
-        → admitted.items ≡ filter (λ event. not (is_shed config rounds load event))
+        → admitted.items ≡ filter (λ event. not (is_shed config rounds limits load event))
         events.items) }
 {
-    if let Load::Low = load {
+    if are_usual(limits, load, &events) {
         return Ok(events);
     }
-    admitted_at(alloc, agent, load, events)
-}
-
-// The events, looked at one by one, without the datagrams that are shed at this load.
-fn admitted_at(
-    alloc: Global,
-    agent: &Agent<Spread>,
-    load: Load,
-    events: Vec<Event>,
-) -> Result<Vec<Event>, AllocError>
-    ensures { IfOk result (λ admitted. (config : AConfig) (rounds : List ARound)
-        → StandsFor shard_of agent.now config rounds
-        → admitted.items ≡ filter (λ event. not (is_shed config rounds load event))
-        events.items) }
-{
     let mut admitted = Vec::with_capacity(alloc, events.len())?;
     for event in events {
-        admit_one(alloc, agent, load, event, &mut admitted)?;
+        admit_one(alloc, agent, limits, load, event, &mut admitted)?;
     }
     Ok(admitted)
 }
@@ -154,6 +164,7 @@ fn admitted_at(
 fn admit_one(
     alloc: Global,
     agent: &Agent<Spread>,
+    limits: RequestLimits,
     load: Load,
     event: Event,
     admitted: &mut Vec<Event>,
@@ -161,45 +172,55 @@ fn admit_one(
     ensures { OnOk result ((config : AConfig) (rounds : List ARound)
         → StandsFor shard_of agent.now config rounds
         → admitted.new.items ≡ admitted.old.items
-        ++ filter (λ event. not (is_shed config rounds load event)) (event ∷ [])) }
+        ++ filter (λ event. not (is_shed config rounds limits load event)) (event ∷ [])) }
 {
-    if is_shed_at(alloc, agent, load, &event)? {
+    if is_shed_at(alloc, agent, limits, load, &event)? {
         return Ok(());
     }
     admitted.push(event)?;
     Ok(())
 }
 
+// Whether each event is let in without a look at its message.
+fn are_usual(limits: RequestLimits, load: Load, events: &[Event]) -> bool
+    ensures { result ≡ list_all (spec.is_usual limits load) events.now }
+{
+    events.iter().all(|event| is_usual(limits, load, event))
+}
+
+fn is_usual(limits: RequestLimits, load: Load, event: &Event) -> bool
+    ensures { result ≡ spec.is_usual limits load event.now }
+{
+    match (event, load) {
+        (Event::Datagram { bytes, .. }, Load::Low) => {
+            let len = bytes.as_slice().len();
+            len <= limits.largest as usize && len <= USUAL_LENGTH
+        }
+        (Event::Datagram { .. }, Load::High | Load::Full) => false,
+        (Event::Failed(_) | Event::Command(_), _) => true,
+    }
+}
+
 fn is_shed_at(
     alloc: Global,
     agent: &Agent<Spread>,
+    limits: RequestLimits,
     load: Load,
     event: &Event,
 ) -> Result<bool, AllocError>
     ensures { IfOk result (λ shed. (config : AConfig) (rounds : List ARound)
         → StandsFor shard_of agent.now config rounds
-        → shed ≡ is_shed config rounds load event.now) }
+        → shed ≡ is_shed config rounds limits load event.now) }
 {
-    match event {
-        Event::Datagram { from: _, bytes } => {
-            is_shed_datagram(alloc, agent, load, bytes.as_slice())
-        }
-        Event::Failed(_) | Event::Command(_) => Ok(false),
+    let Event::Datagram { bytes, .. } = event else {
+        return Ok(false);
+    };
+    if is_usual(limits, load, event) {
+        return Ok(false);
     }
-}
-
-fn is_shed_datagram(
-    alloc: Global,
-    agent: &Agent<Spread>,
-    load: Load,
-    bytes: &[u8],
-) -> Result<bool, AllocError>
-    ensures { IfOk result (λ shed. (config : AConfig) (rounds : List ARound)
-        → StandsFor shard_of agent.now config rounds
-        → shed ≡ spec.is_shed_message config rounds load (message_at bytes.now)) }
-{
+    let bytes = bytes.as_slice();
     match read_datagram(alloc, bytes) {
-        Ok(message) => is_shed_message(agent, load, &message),
+        Ok(message) => is_shed_message(agent, limits, load, bytes.len(), &message),
         Err(ReadFault::NoMemory) => Err(AllocError),
         Err(_) => Ok(false),
     }
@@ -211,15 +232,29 @@ fn read_datagram(alloc: Global, bytes: &[u8]) -> Result<Message, ReadFault>
     read(alloc, bytes)
 }
 
-fn is_shed_message(agent: &Agent<Spread>, load: Load, message: &Message) -> Result<bool, AllocError>
+fn is_shed_message(
+    agent: &Agent<Spread>,
+    limits: RequestLimits,
+    load: Load,
+    len: usize,
+    message: &Message,
+) -> Result<bool, AllocError>
     ensures { IfOk result (λ shed. (config : AConfig) (rounds : List ARound)
         → StandsFor shard_of agent.now config rounds
-        → shed ≡ spec.is_shed_message config rounds load (Ok message.now)) }
+        → shed ≡ spec.is_shed_message config rounds limits load len (Ok message.now)) }
 {
-    if is_let_in(load, message) {
+    if is_let_in(load, message) && !is_too_large(limits, len, message) {
         return Ok(false);
     }
     agent.would_begin(message)
+}
+
+// Whether a message of so many bytes is larger than a request may be that begins a transaction.
+fn is_too_large(limits: RequestLimits, len: usize, message: &Message) -> bool
+    ensures { result ≡ spec.is_too_large limits len message.now }
+{
+    len > limits.largest as usize
+        || len > USUAL_LENGTH && message.vias.as_slice().len() > limits.vias as usize
 }
 
 // Whether the message is let in, whatever it begins.

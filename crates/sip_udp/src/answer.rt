@@ -64,14 +64,15 @@ pub(crate) fn respond_with(
     content: Content,
     events: &mut Vec<Event>,
 ) -> Result<(), AllocError> {
-    let reason = usual_reason(alloc, status)?;
+    let call_id = call_id.clone()?;
+    let reason = Text::copy_of(alloc, reason_of(status))?;
     let respond = Respond {
-        call_id: call_id.clone()?,
+        call_id,
         id,
         status,
         reliability,
         content,
-        reason,
+        reason: Reason::new(reason).unwrap_or(Reason::nothing(alloc)),
     };
     events.push(Event::Command(UserCommand::Respond(respond)))?;
     Ok(())
@@ -92,11 +93,6 @@ pub(crate) fn contact(alloc: Global, uri: Uri) -> Result<Content, AllocError> {
         others: Series::new(alloc),
     };
     Content::new(alloc, headers, Text::from_vec(Vec::new(alloc)))
-}
-
-fn usual_reason(alloc: Global, status: u16) -> Result<Reason, AllocError> {
-    let text = Text::copy_of(alloc, reason_of(status))?;
-    Ok(Reason::new(text).unwrap_or(Reason::nothing(alloc)))
 }
 
 // The reason that RFC 3261, section 21, gives for a status; empty for those not used here.

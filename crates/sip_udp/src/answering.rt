@@ -7,15 +7,14 @@ use crate::hang_up::nothing;
 use crate::made_dialogs::MadeDialogs;
 use crate::shared_plan::SharedPlan;
 use crate::time_limit::TimeLeft;
-use crate::user::User;
 use sip_message::{CallId, Content, Id};
 use sip_round::Event;
 use sip_text::Text;
 use sip_user::{Notice, Refusal, Reliability};
 use std::alloc::{AllocError, Global};
-use std::io::Write;
 use std::mem;
 use std::sync::Arc;
+use std::sync::atomic::Ordering;
 
 /// An INVITE that isn't answered yet.
 #[derive(Drop)]
@@ -35,10 +34,10 @@ struct Unanswered {
 /// INVITEs that aren't answered yet get 480, and each dialog gets a BYE.
 #[derive(Drop)]
 pub(crate) struct Answering {
-    shared: Arc<SharedPlan>,
+    pub(crate) shared: Arc<SharedPlan>,
     unanswered: Vec<Unanswered>,
     dialogs: MadeDialogs,
-    is_leaving: bool,
+    pub(crate) is_leaving: bool,
 }
 
 impl Answering {
@@ -51,30 +50,130 @@ impl Answering {
         }
     }
 
-    // An INVITE came with these tags. The first is the agent's own. A re-INVITE in a dialog is
-    // answered at once.
+    /// Adds what it asks for when it is told this notice at the moment `now`.
+    ///
+    /// # Errors
+    ///
+    /// Memory ran out.
+    pub(crate) fn told(
+        &mut self,
+        alloc: Global,
+        now: u64,
+        notice: &Notice,
+        events: &mut Vec<Event>,
+    ) -> Result<(), AllocError> {
+        match notice {
+            Notice::Request {
+                call_id,
+                id,
+                method,
+                local_tag,
+                remote_tag,
+                body,
+            } => {
+                let method = method.as_slice();
+                if method == b"INVITE".as_slice() {
+                    let tags = (local_tag, remote_tag);
+                    return self.invited(alloc, now, call_id, *id, tags, body, events);
+                }
+                respond(alloc, call_id, *id, status_for(method), events)
+            }
+            Notice::Prack { call_id, id, .. } | Notice::NoPrack { call_id, id } => {
+                self.go_on(alloc, now, call_id, Some(*id), events)
+            }
+            Notice::Refused {
+                call_id,
+                refusal: Refusal::NotSupported,
+                ..
+            } => self.go_on(alloc, now, call_id, None, events),
+            Notice::Cancel { id, .. } => {
+                self.unanswered.retain(|one| one.id != *id);
+                self.dialogs.remove_of(*id);
+                Ok(())
+            }
+            Notice::Ack { id, .. } => {
+                self.dialogs.confirm(*id);
+                if self.is_leaving {
+                    self.dialogs.end(alloc, *id, events)?;
+                    self.dialogs.remove_of(*id);
+                }
+                Ok(())
+            }
+            Notice::NoAck { id, .. } => self.dialogs.end(alloc, *id, events),
+            Notice::Ended {
+                call_id,
+                local_tag,
+                remote_tag,
+            } => {
+                self.dialogs.remove(call_id, (local_tag, remote_tag));
+                Ok(())
+            }
+            _ => Ok(()),
+        }
+    }
+
+    /// Adds what it asks for by itself at the moment `now`, when this much time is left.
+    ///
+    /// # Errors
+    ///
+    /// Memory ran out.
+    pub(crate) fn turn(
+        &mut self,
+        alloc: Global,
+        now: u64,
+        left: TimeLeft,
+        events: &mut Vec<Event>,
+    ) -> Result<(), AllocError> {
+        if matches!(left, TimeLeft::InputEnded) && !self.is_leaving {
+            return self.leave(alloc, events);
+        }
+        for one in mem::replace(&mut self.unanswered, Vec::new(alloc)) {
+            match one.due {
+                Some(due) if due <= now => {
+                    self.answer(alloc, &one, events)?;
+                }
+                _ => self.unanswered.push(one)?,
+            }
+        }
+        Ok(())
+    }
+
+    // An INVITE with this body came with these tags. The first is the agent's own. A re-INVITE in a
+    // dialog is answered at once. Nobody answers any more, once the user is leaving.
     fn invited(
         &mut self,
         alloc: Global,
         now: u64,
-        mut invite: Unanswered,
+        call_id: &CallId,
+        id: Id,
         tags: (&Text, &Text),
+        body: &Text,
         events: &mut Vec<Event>,
     ) -> Result<(), AllocError> {
         if self.is_leaving {
-            return invite.refuse(alloc, events);
+            return respond(alloc, call_id, id, TEMPORARILY_UNAVAILABLE, events);
         }
-        if let Some(before) = self.dialogs.re_invited(&invite.call_id, tags) {
-            invite.before = before;
+        let before = self.dialogs.re_invited(call_id, tags);
+        let invite = Unanswered {
+            call_id: call_id.clone()?,
+            id,
+            offer: body.clone()?,
+            before: before.unwrap_or(0),
+            due: None,
+        };
+        if before.is_some() {
             return self.answer(alloc, &invite, events);
         }
         if self.shared.plan.makes_dialogs() {
-            self.dialogs.add(&invite.call_id, invite.id, tags)?;
+            self.dialogs.add(call_id, id, tags)?;
         }
         if !self.shared.plan.reliable {
             return self.alert(alloc, now, invite, events);
         }
-        invite.progress(alloc, events)?;
+        // A 183, which the caller has to acknowledge (RFC 3262, section 3).
+        let (status, reliability) = (SESSION_PROGRESS, Reliability::Reliable);
+        let content = nothing(alloc);
+        respond_with(alloc, call_id, id, status, reliability, content, events)?;
         self.unanswered.push(invite)?;
         Ok(())
     }
@@ -96,26 +195,12 @@ impl Answering {
         Ok(())
     }
 
-    // The ACK of an INVITE came.
-    fn confirm(
-        &mut self,
-        alloc: Global,
-        id: Id,
-        events: &mut Vec<Event>,
-    ) -> Result<(), AllocError> {
-        self.dialogs.confirm(id);
-        if self.is_leaving {
-            self.dialogs.end(alloc, id, events)?;
-            self.dialogs.remove_of(id);
-        }
-        Ok(())
-    }
-
     // Answers waiting INVITEs with 480, and sends a BYE in each confirmed dialog.
     fn leave(&mut self, alloc: Global, events: &mut Vec<Event>) -> Result<(), AllocError> {
         self.is_leaving = true;
         for one in mem::replace(&mut self.unanswered, Vec::new(alloc)) {
-            one.refuse(alloc, events)?;
+            let status = TEMPORARILY_UNAVAILABLE;
+            respond(alloc, &one.call_id, one.id, status, events)?;
         }
         self.dialogs.hang_up(alloc, events)
     }
@@ -128,12 +213,11 @@ impl Answering {
         events: &mut Vec<Event>,
     ) -> Result<(), AllocError> {
         if invite.before == 0 && self.shared.plan.makes_dialogs() {
-            self.shared.count_answered();
+            self.shared.answered.fetch_add(1, Ordering::SeqCst);
         }
         let Unanswered { call_id, id, .. } = invite;
-        let status = self.shared.plan.status;
+        let (status, reliability) = (self.shared.plan.status, Reliability::Plain);
         let content = self.content(alloc, invite)?;
-        let reliability = Reliability::Plain;
         respond_with(alloc, call_id, *id, status, reliability, content, events)
     }
 
@@ -164,143 +248,16 @@ impl Answering {
         events: &mut Vec<Event>,
     ) -> Result<(), AllocError> {
         for one in mem::replace(&mut self.unanswered, Vec::new(alloc)) {
-            if one.due.is_none() && one.is_meant(call_id, id) {
+            let is_meant = match id {
+                Some(id) => one.id == id,
+                None => one.call_id == *call_id,
+            };
+            if one.due.is_none() && is_meant {
                 self.alert(alloc, now, one, events)?;
             } else {
                 self.unanswered.push(one)?;
             }
         }
         Ok(())
-    }
-}
-
-impl Unanswered {
-    fn new(call_id: &CallId, id: Id, body: &Text) -> Result<Unanswered, AllocError> {
-        let call_id = call_id.clone()?;
-        Ok(Unanswered {
-            call_id,
-            id,
-            offer: body.clone()?,
-            before: 0,
-            due: None,
-        })
-    }
-
-    // Asks for a 183, which the caller has to acknowledge (RFC 3262, section 3).
-    fn progress(&self, alloc: Global, events: &mut Vec<Event>) -> Result<(), AllocError> {
-        let Unanswered { call_id, id, .. } = self;
-        let content = nothing(alloc);
-        let reliability = Reliability::Reliable;
-        let status = SESSION_PROGRESS;
-        respond_with(alloc, call_id, *id, status, reliability, content, events)
-    }
-
-    // Nobody answers any more.
-    fn refuse(&self, alloc: Global, events: &mut Vec<Event>) -> Result<(), AllocError> {
-        respond(
-            alloc,
-            &self.call_id,
-            self.id,
-            TEMPORARILY_UNAVAILABLE,
-            events,
-        )
-    }
-
-    fn is_meant(&self, call_id: &CallId, id: Option<Id>) -> bool {
-        match id {
-            Some(id) => self.id == id,
-            None => self.call_id == *call_id,
-        }
-    }
-}
-
-impl User for Answering {
-    fn begin(&mut self, _alloc: Global, _events: &mut Vec<Event>) -> Result<(), AllocError> {
-        Ok(())
-    }
-
-    fn told(
-        &mut self,
-        alloc: Global,
-        now: u64,
-        notice: &Notice,
-        events: &mut Vec<Event>,
-    ) -> Result<(), AllocError> {
-        match notice {
-            Notice::Request {
-                call_id,
-                id,
-                method,
-                local_tag,
-                remote_tag,
-                body,
-            } => {
-                let method = method.as_slice();
-                if method == b"INVITE".as_slice() {
-                    let invite = Unanswered::new(call_id, *id, body)?;
-                    let tags = (local_tag, remote_tag);
-                    return self.invited(alloc, now, invite, tags, events);
-                }
-                respond(alloc, call_id, *id, status_for(method), events)
-            }
-            Notice::Prack { call_id, id, .. } | Notice::NoPrack { call_id, id } => {
-                self.go_on(alloc, now, call_id, Some(*id), events)
-            }
-            Notice::Refused {
-                call_id,
-                refusal: Refusal::NotSupported,
-                ..
-            } => self.go_on(alloc, now, call_id, None, events),
-            Notice::Cancel { id, .. } => {
-                self.unanswered.retain(|one| one.id != *id);
-                self.dialogs.remove_of(*id);
-                Ok(())
-            }
-            Notice::Ack { id, .. } => self.confirm(alloc, *id, events),
-            Notice::NoAck { id, .. } => self.dialogs.end(alloc, *id, events),
-            Notice::Ended {
-                call_id,
-                local_tag,
-                remote_tag,
-            } => {
-                self.dialogs.remove(call_id, (local_tag, remote_tag));
-                Ok(())
-            }
-            _ => Ok(()),
-        }
-    }
-
-    fn turn<E: Write>(
-        &mut self,
-        alloc: Global,
-        now: u64,
-        left: TimeLeft,
-        events: &mut Vec<Event>,
-        _errors: &mut E,
-    ) -> Result<(), AllocError> {
-        if left == TimeLeft::InputEnded && !self.is_leaving {
-            return self.leave(alloc, events);
-        }
-        for one in mem::replace(&mut self.unanswered, Vec::new(alloc)) {
-            match one.due {
-                Some(due) if due <= now => {
-                    self.answer(alloc, &one, events)?;
-                }
-                _ => self.unanswered.push(one)?,
-            }
-        }
-        Ok(())
-    }
-
-    fn is_over(&self, _now: u64, holds: bool) -> bool {
-        self.is_leaving && !holds
-    }
-
-    fn is_eager(&self) -> bool {
-        false
-    }
-
-    fn is_satisfied(&self) -> bool {
-        self.shared.is_satisfied()
     }
 }

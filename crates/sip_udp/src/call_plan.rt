@@ -28,7 +28,7 @@ pub struct CallPlan {
 
 impl CallPlan {
     /// A call to this URI at this address, without a body. It ends as soon as it is answered.
-    pub fn usual(alloc: Global, to: Addr, uri: Uri, call_id: CallId) -> CallPlan {
+    pub(crate) fn usual(alloc: Global, to: Addr, uri: Uri, call_id: CallId) -> CallPlan {
         CallPlan {
             to,
             uri,
@@ -58,17 +58,13 @@ impl CallPlan {
             from,
             to,
             routes: Series::new(alloc),
-            support: self.support(),
+            support: if self.is_reliable {
+                ProvisionalSupport::Supported
+            } else {
+                ProvisionalSupport::None
+            },
             content: Content::of_body(body),
         })
-    }
-
-    fn support(&self) -> ProvisionalSupport {
-        if self.is_reliable {
-            ProvisionalSupport::Supported
-        } else {
-            ProvisionalSupport::None
-        }
     }
 }
 

@@ -5,19 +5,18 @@ use crate::call_plan::CallPlan;
 use crate::hang_up::end_dialog;
 use crate::sdp;
 use crate::time_limit::TimeLeft;
-use crate::user::User;
-use sip_message::{Addr, Content, Id, StatusCode, Token, Uri, ip_text};
+use sip_message::{Addr, Content, Id, Token, Uri, ip_text};
 use sip_round::{Config, Event, opening_tag};
 use sip_text::Text;
 use sip_user::{Cancel, DialogBody, Notice, UserCommand};
 use std::alloc::{AllocError, Global};
-use std::io::Write;
+use std::mem;
 
 /// The id of the INVITE: it is the first event of the first round.
 const INVITE: Id = Id { round: 0, place: 1 };
 
 /// How far the call is.
-#[derive(Clone, Copy, PartialEq, Eq)]
+#[derive(Clone, Copy)]
 enum Stage {
     /// The INVITE has no final response yet.
     Asked,
@@ -74,123 +73,24 @@ impl Calling {
         })
     }
 
-    // A final response to the INVITE came, with this status.
-    fn answered(
-        &mut self,
-        alloc: Global,
-        now: u64,
-        status: StatusCode,
-        remote_tag: &Text,
-        body: &Text,
-        events: &mut Vec<Event>,
-    ) -> Result<(), AllocError> {
-        if !is_success(status) {
-            self.refused();
-            return Ok(());
-        }
-        let former = self.stage;
-        self.stage = Stage::Answered;
-        if self.is_offered(body) {
-            self.answer_offer(alloc, status, remote_tag, body, events)?;
-        }
-        match self.plan.hold {
-            Some(hold) if former == Stage::Asked => {
-                self.up = Some(Up {
-                    remote_tag: remote_tag.clone()?,
-                    due: now.saturating_add(u64::from(hold)),
-                });
-            }
-            _ => return self.end(alloc, remote_tag, events),
-        }
-        Ok(())
-    }
-
-    // Ends the dialog with this remote tag.
-    fn end(
-        &self,
-        alloc: Global,
-        remote_tag: &Text,
-        events: &mut Vec<Event>,
-    ) -> Result<(), AllocError> {
-        let call_id = &self.plan.call_id;
-        end_dialog(alloc, call_id, &self.local_tag, remote_tag, events)
-    }
-
-    // Whether the body of a response is an offer. If the INVITE has a body, that is the offer, and
-    // the body of its 2xx is the answer.
-    fn is_offered(&self, body: &Text) -> bool {
-        !body.is_empty() && self.plan.body.is_empty()
-    }
-
-    // Answers the offer of a response with this remote tag: in the ACK of a final one, or in the
-    // PRACK of a provisional one.
-    fn answer_offer(
-        &self,
-        alloc: Global,
-        status: StatusCode,
-        remote_tag: &Text,
-        offer: &Text,
-        events: &mut Vec<Event>,
-    ) -> Result<(), AllocError> {
-        let call_id = self.plan.call_id.clone()?;
-        let local_tag = Token::new(self.local_tag.clone()?);
-        let remote_tag = Token::new(remote_tag.clone()?);
-        let answer = sdp::inactive(alloc, self.local.ip, 0, offer.as_slice())?;
-        let body = DialogBody {
-            call_id,
-            local_tag,
-            remote_tag,
-            content: Content::of_body(answer),
-        };
-        let command = if is_final(status) {
-            UserCommand::Ack(body)
-        } else {
-            UserCommand::Prack(body)
-        };
-        events.push(Event::Command(command))?;
-        Ok(())
-    }
-
-    // Cancels the INVITE.
-    fn cancel(&mut self, events: &mut Vec<Event>) -> Result<(), AllocError> {
-        self.stage = Stage::Cancelled;
-        let call_id = self.plan.call_id.clone()?;
-        let cancel = Cancel {
-            call_id,
-            id: INVITE,
-        };
-        events.push(Event::Command(UserCommand::Cancel(cancel)))?;
-        Ok(())
-    }
-
-    // If no answer has come so far, none will come.
-    fn refused(&mut self) {
-        if self.stage != Stage::Answered {
-            self.stage = Stage::Refused;
-        }
-    }
-
-    // Takes the dialog that is up, if it has to end now.
-    fn due_dialog(&mut self, now: u64, is_leaving: bool) -> Option<Up> {
-        match self.up.take() {
-            Some(up) if is_leaving || up.due <= now => Some(up),
-            up => {
-                self.up = up;
-                None
-            }
-        }
-    }
-}
-
-impl User for Calling {
-    fn begin(&mut self, alloc: Global, events: &mut Vec<Event>) -> Result<(), AllocError> {
+    /// Asks for the INVITE.
+    ///
+    /// # Errors
+    ///
+    /// Memory ran out.
+    pub(crate) fn begin(&self, alloc: Global, events: &mut Vec<Event>) -> Result<(), AllocError> {
         let from = own_uri(alloc, self.local)?;
         let invite = self.plan.invite(alloc, from)?;
         events.push(Event::Command(UserCommand::Invite(invite)))?;
         Ok(())
     }
 
-    fn told(
+    /// Adds what it asks for when it is told this notice at the moment `now`.
+    ///
+    /// # Errors
+    ///
+    /// Memory ran out.
+    pub(crate) fn told(
         &mut self,
         alloc: Global,
         now: u64,
@@ -203,24 +103,15 @@ impl User for Calling {
                 id,
                 method,
                 ..
-            } => respond(alloc, call_id, *id, status_for(method.as_slice()), events)?,
+            } => return respond(alloc, call_id, *id, status_for(method.as_slice()), events),
             Notice::Response {
                 id,
                 status,
                 remote_tag,
                 body,
                 ..
-            } if *id == INVITE && is_final(*status) => {
-                self.answered(alloc, now, *status, remote_tag, body, events)?;
-            }
-            Notice::Response {
-                id,
-                status,
-                remote_tag,
-                body,
-                ..
-            } if *id == INVITE && self.plan.is_reliable && self.is_offered(body) => {
-                self.answer_offer(alloc, *status, remote_tag, body, events)?;
+            } if *id == INVITE => {
+                return self.responded(alloc, now, status.code(), remote_tag, body, events);
             }
             Notice::Timeout { id, .. } | Notice::Failed { id, .. } if *id == INVITE => {
                 self.refused();
@@ -234,35 +125,130 @@ impl User for Calling {
         Ok(())
     }
 
-    fn turn<E: Write>(
+    /// Adds what it asks for by itself at the moment `now`, when this much time is left.
+    ///
+    /// # Errors
+    ///
+    /// Memory ran out.
+    pub(crate) fn turn(
         &mut self,
         alloc: Global,
         now: u64,
         left: TimeLeft,
         events: &mut Vec<Event>,
-        _errors: &mut E,
     ) -> Result<(), AllocError> {
-        self.leaves = self.leaves || left == TimeLeft::InputEnded;
-        let is_leaving = self.leaves && left != TimeLeft::More;
-        if let Some(up) = self.due_dialog(now, is_leaving) {
-            self.end(alloc, &up.remote_tag, events)?;
+        self.leaves = self.leaves || matches!(left, TimeLeft::InputEnded);
+        let is_leaving = self.leaves && !matches!(left, TimeLeft::More);
+        match self.up.take() {
+            Some(up) if is_leaving || up.due <= now => self.end(alloc, &up.remote_tag, events)?,
+            up => self.up = up,
         }
-        if is_leaving && self.stage == Stage::Asked {
-            return self.cancel(events);
+        if is_leaving && matches!(self.stage, Stage::Asked) {
+            self.stage = Stage::Cancelled;
+            let cancel = Cancel {
+                call_id: self.plan.call_id.clone()?,
+                id: INVITE,
+            };
+            events.push(Event::Command(UserCommand::Cancel(cancel)))?;
         }
         Ok(())
     }
 
-    fn is_over(&self, _now: u64, holds: bool) -> bool {
-        self.leaves && !holds && matches!(self.stage, Stage::Answered | Stage::Refused)
+    /// Whether its call is over, and it wants no more turns.
+    pub(crate) fn is_ending(&self) -> bool {
+        self.leaves && matches!(self.stage, Stage::Answered | Stage::Refused)
     }
 
-    fn is_eager(&self) -> bool {
-        false
+    /// Whether the call was answered, if it had to be.
+    pub(crate) fn is_satisfied(&self) -> bool {
+        !self.plan.must_answer || matches!(self.stage, Stage::Answered)
     }
 
-    fn is_satisfied(&self) -> bool {
-        !self.plan.must_answer || self.stage == Stage::Answered
+    // A response to the INVITE came, with this status. The dialog of the first 2xx stays up, if the
+    // plan says so.
+    fn responded(
+        &mut self,
+        alloc: Global,
+        now: u64,
+        status: u16,
+        remote_tag: &Text,
+        body: &Text,
+        events: &mut Vec<Event>,
+    ) -> Result<(), AllocError> {
+        let is_success = (200..=299).contains(&status);
+        if status > 299 {
+            self.refused();
+        }
+        if is_success || (status < 200 && self.plan.is_reliable) {
+            self.answer_offer(alloc, is_success, remote_tag, body, events)?;
+        }
+        if !is_success {
+            return Ok(());
+        }
+        match (
+            self.plan.hold,
+            mem::replace(&mut self.stage, Stage::Answered),
+        ) {
+            (Some(hold), Stage::Asked) => {
+                self.up = Some(Up {
+                    remote_tag: remote_tag.clone()?,
+                    due: now.saturating_add(u64::from(hold)),
+                });
+                Ok(())
+            }
+            _ => self.end(alloc, remote_tag, events),
+        }
+    }
+
+    // Ends the dialog with this remote tag.
+    fn end(
+        &self,
+        alloc: Global,
+        remote_tag: &Text,
+        events: &mut Vec<Event>,
+    ) -> Result<(), AllocError> {
+        let call_id = &self.plan.call_id;
+        end_dialog(alloc, call_id, &self.local_tag, remote_tag, events)
+    }
+
+    // Answers the offer of a response with this remote tag, if its body is one: in the ACK of a
+    // 2xx, or in the PRACK of a provisional response. If the INVITE has a body, that is the
+    // offer, and the body of its 2xx is the answer.
+    fn answer_offer(
+        &self,
+        alloc: Global,
+        is_success: bool,
+        remote_tag: &Text,
+        offer: &Text,
+        events: &mut Vec<Event>,
+    ) -> Result<(), AllocError> {
+        if offer.is_empty() || !self.plan.body.is_empty() {
+            return Ok(());
+        }
+        let call_id = self.plan.call_id.clone()?;
+        let local_tag = Token::new(self.local_tag.clone()?);
+        let remote_tag = Token::new(remote_tag.clone()?);
+        let answer = sdp::inactive(alloc, self.local.ip, 0, offer.as_slice())?;
+        let body = DialogBody {
+            call_id,
+            local_tag,
+            remote_tag,
+            content: Content::of_body(answer),
+        };
+        let command = if is_success {
+            UserCommand::Ack(body)
+        } else {
+            UserCommand::Prack(body)
+        };
+        events.push(Event::Command(command))?;
+        Ok(())
+    }
+
+    // If no answer has come so far, none will come.
+    fn refused(&mut self) {
+        if !matches!(self.stage, Stage::Answered) {
+            self.stage = Stage::Refused;
+        }
     }
 }
 
@@ -272,12 +258,4 @@ fn own_uri(alloc: Global, local: Addr) -> Result<Uri, AllocError> {
     let mut text = Text::copy_of(alloc, b"sip:ua@")?;
     text.extend_from_slice(&ip_text(local.ip))?;
     Ok(Uri::from_text(text))
-}
-
-fn is_final(status: StatusCode) -> bool {
-    status.code() >= 200
-}
-
-fn is_success(status: StatusCode) -> bool {
-    (200..=299).contains(&status.code())
 }

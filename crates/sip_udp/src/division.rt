@@ -12,6 +12,10 @@ const SHARED: usize = 2_000;
 /// least with 10 to 100 events a round. Several threads need large rounds.
 const BEST: usize = 128;
 
+/// How many events a round of a journal has at most. Each is a line of at most 2^20 bytes, the
+/// longest that a pipe takes; the lines of a whole round can be read again up to 2^26 bytes.
+const MOST_JOURNALLED: usize = 63;
+
 /// How many agents share the calls, how many shards the transactions and calls of each are cut
 /// into, and how many threads work on a round of one agent.
 #[derive(Clone, Copy)]
@@ -35,9 +39,11 @@ impl Division {
         workers: 1,
     };
 
-    /// How many events a round has at most.
-    pub(crate) fn most_events(self) -> usize {
-        if self.workers > 1 {
+    /// How many events a round has at most, of a journal or not.
+    pub(crate) fn most_events(self, is_journal: bool) -> usize {
+        if is_journal {
+            MOST_JOURNALLED
+        } else if self.workers > 1 {
             MAX_EVENTS_OF_ROUND
         } else {
             BEST

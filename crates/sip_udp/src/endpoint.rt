@@ -5,6 +5,7 @@ ghost use Rattle.std.specs.Option.{option_map};
 ghost use Rattle.sip_udp.specs.Admission.{share_of};
 ghost use Rattle.sip_agents.specs.Stripes.{config_of};
 
+use crate::admission::RequestLimits;
 use crate::division::Division;
 use crate::fault::UaFault;
 use crate::input_end::InputEnd;
@@ -49,6 +50,8 @@ pub struct Endpoint<F> {
     /// How many transactions are to be held at most, if there is a limit. Above it requests are
     /// shed. Of several agents each has a fair share of the limit.
     pub held_limit: Option<u32>,
+    /// What a request may have that would begin a transaction. Others are shed.
+    pub request_limits: RequestLimits,
     /// The input whose end ends the turns of `listen` and `call`, if one does.
     pub input: Option<Arc<InputEnd>>,
 }
@@ -70,15 +73,16 @@ impl<F: Drop> Drop for Endpoint<F> {
             turns: _,
             seconds: _,
             held_limit: _,
+            request_limits: _,
             input: _,
         } = self;
     }
 }
 
 impl<F> Endpoint<F> {
-    /// An endpoint at this address, with one agent, of 4 shards, on one thread. It begins with
-    /// round 0, and is recorded as an event file.
-    pub fn new(socket: UdpSocket, local: Addr, seed: [u8; 32], file: Option<F>) -> Endpoint<F> {
+    /// An endpoint at this address with the usual division, for so many turns. It begins with round
+    /// 0, and isn't recorded.
+    pub(crate) fn usual(socket: UdpSocket, local: Addr, seed: [u8; 32], turns: u32) -> Endpoint<F> {
         Endpoint {
             socket,
             config: Config {
@@ -87,7 +91,7 @@ impl<F> Endpoint<F> {
                 first: 0,
             },
             division: Division::USUAL,
-            record: file,
+            record: None,
             keeping: Keeping::MayFail,
             past: None,
             kind: FileKind::Events,
@@ -95,9 +99,10 @@ impl<F> Endpoint<F> {
             is_announced: false,
             tells_drops: false,
             tells_ids: false,
-            turns: u64::MAX,
+            turns: u64::from(turns),
             seconds: None,
             held_limit: None,
+            request_limits: RequestLimits::USUAL,
             input: None,
         }
     }
@@ -163,6 +168,7 @@ impl<F> Endpoint<F> {
             turns: self.turns,
             seconds: self.seconds,
             held_limit: self.held_limit,
+            request_limits: self.request_limits,
             input: self.input.clone()?,
         })
     }
@@ -172,32 +178,7 @@ impl<F: RecordFile> Endpoint<F> {
     /// Takes the record out.
     pub(crate) fn take_record(&mut self) -> Record<F> {
         let file = self.record.take();
-        match &self.past {
-            Some(past) => Record::journal(file, self.keeping, past),
-            None => Record::new(self.kind, file),
-        }
-    }
-
-    /// Its socket alone.
-    pub(crate) fn into_socket(self) -> UdpSocket {
-        let Endpoint {
-            socket,
-            config: _,
-            division: _,
-            record: _,
-            keeping: _,
-            past: _,
-            kind: _,
-            is_counted: _,
-            is_announced: _,
-            tells_drops: _,
-            tells_ids: _,
-            turns: _,
-            seconds: _,
-            held_limit: _,
-            input: _,
-        } = self;
-        socket
+        Record::new(file, self.kind, self.keeping, self.past.as_ref())
     }
 }
 

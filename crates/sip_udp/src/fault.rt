@@ -57,11 +57,3 @@ impl From<sip_round::NoMemory> for UaFault {
         UaFault::NoMemory
     }
 }
-
-/// The fault of a round with this number that was refused; lack of memory has a fault of its own.
-pub(crate) fn refused_round(number: u64, fault: RoundFault) -> UaFault {
-    match fault {
-        RoundFault::NoMemory { .. } => UaFault::NoMemory,
-        _ => UaFault::Round { number, fault },
-    }
-}

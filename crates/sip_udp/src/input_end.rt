@@ -13,8 +13,9 @@ const UNSEEN: u64 = u64::MAX;
 /// How far an input was read. An input that can't be read never ends.
 #[derive(Drop)]
 pub struct InputEnd {
-    has_bytes: AtomicBool,
-    has_ended: AtomicBool,
+    /// Whether a byte came before the end.
+    pub(crate) has_bytes: AtomicBool,
+    pub(crate) has_ended: AtomicBool,
     // The moment at which somebody saw that it has ended.
     seen: AtomicU64,
 }
@@ -43,16 +44,6 @@ impl InputEnd {
             Ok(_) => Ok(end),
             Err(_) => Err(UaFault::Socket),
         }
-    }
-
-    /// Whether it has ended.
-    pub(crate) fn has_ended(&self) -> bool {
-        self.has_ended.load(Ordering::SeqCst)
-    }
-
-    /// Whether a byte came before the end.
-    pub(crate) fn has_bytes(&self) -> bool {
-        self.has_bytes.load(Ordering::SeqCst)
     }
 
     /// The moment, in ms since the start, at which its end was first seen: `now`, unless another

@@ -21,9 +21,9 @@ mod line_end;
 mod listen_plan;
 mod listener;
 mod made_dialogs;
+mod moments;
 mod notices;
 mod other_station;
-mod outcomes;
 mod outlet;
 mod past;
 mod pipe_input;
@@ -46,6 +46,7 @@ mod user;
 mod waiting;
 mod wrong_word;
 
+pub use admission::RequestLimits;
 pub use bell::Bell;
 pub use call_plan::CallPlan;
 pub use division::Division;

@@ -55,7 +55,7 @@ impl AnswerBody {
 
 impl ListenPlan {
     /// 200 at once, without a body.
-    pub fn usual() -> ListenPlan {
+    pub(crate) fn usual() -> ListenPlan {
         ListenPlan {
             ring: None,
             reliable: false,

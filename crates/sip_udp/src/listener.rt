@@ -32,22 +32,17 @@ pub struct Flags {
     pub stop: AtomicBool,
     /// The listener has ended.
     pub ended: AtomicBool,
-    // The bell rings when the listener has posted something or has ended.
-    bell: Option<Arc<Bell>>,
+    /// The bell rings when the listener has posted something or has ended.
+    pub(crate) bell: Option<Arc<Bell>>,
 }
 
 impl Flags {
     /// Neither the turns are over, nor has the listener ended.
     pub fn new() -> Flags {
-        Flags::with_bell(None)
-    }
-
-    /// The same. The turns wait at this bell.
-    pub(crate) fn with_bell(bell: Option<Arc<Bell>>) -> Flags {
         Flags {
             stop: AtomicBool::new(false),
             ended: AtomicBool::new(false),
-            bell,
+            bell: None,
         }
     }
 

@@ -18,18 +18,6 @@ struct Made {
     is_confirmed: bool,
 }
 
-impl Made {
-    fn is(&self, call_id: &CallId, tags: (&Text, &Text)) -> bool {
-        let (local_tag, remote_tag) = tags;
-        self.local_tag == *local_tag && self.remote_tag == *remote_tag && self.call_id == *call_id
-    }
-
-    fn end(&self, alloc: Global, events: &mut Vec<Event>) -> Result<(), AllocError> {
-        let (call_id, local_tag) = (&self.call_id, &self.local_tag);
-        end_dialog(alloc, call_id, local_tag, &self.remote_tag, events)
-    }
-}
-
 /// The dialogs that INVITEs make. Of two tags the first is one's own. A peer can make many in one
 /// call, so nothing here looks at all dialogs of a call.
 #[derive(Drop)]
@@ -80,12 +68,11 @@ impl MadeDialogs {
 
     // The INVITE that made the dialog of these tags.
     fn invite_of(&self, call_id: &CallId, tags: (&Text, &Text)) -> Option<Id> {
-        let id = *self.invites.get(tags.0)?;
-        if self.made.get(&id)?.is(call_id, tags) {
-            Some(id)
-        } else {
-            None
-        }
+        let (local_tag, remote_tag) = tags;
+        let id = *self.invites.get(local_tag)?;
+        let made = self.made.get(&id)?;
+        let is_same = made.remote_tag == *remote_tag && made.call_id == *call_id;
+        is_same.then_some(id)
     }
 
     /// The ACK of this INVITE came.
@@ -104,7 +91,10 @@ impl MadeDialogs {
         events: &mut Vec<Event>,
     ) -> Result<(), AllocError> {
         match self.made.get(&id) {
-            Some(made) => made.end(alloc, events),
+            Some(made) => {
+                let (call_id, local_tag) = (&made.call_id, &made.local_tag);
+                end_dialog(alloc, call_id, local_tag, &made.remote_tag, events)
+            }
             None => Ok(()),
         }
     }
@@ -132,7 +122,7 @@ impl MadeDialogs {
         let mut ended = Vec::new(alloc);
         for (id, made) in self.made.iter() {
             if made.is_confirmed {
-                made.end(alloc, events)?;
+                self.end(alloc, *id, events)?;
                 ended.push(*id)?;
             }
         }

@@ -13,7 +13,7 @@ use crate::fault::UaFault;
 use sip_files::{FileKind, write_header_line, write_output};
 use sip_message::{Addr, Id};
 use sip_reader::{HeaderLine, header_lines};
-use sip_round::{Event, Output, PlacedOutput, datagram_at, event_at};
+use sip_round::{Event, Output, PlacedOutput, Round, datagram_at, event_at};
 use sip_text::{Series, Text};
 use sip_transactions::DropReason;
 use std::alloc::{AllocError, Global};
@@ -28,11 +28,11 @@ pub(crate) struct Telling {
     pub(crate) drops: Option<u64>,
 }
 
-/// Writes the line of each notice as it stands in an output file. If drops are told, it writes a
-/// line for each, except those of keep-alives. In a session, the header lines of the datagram that
-/// a notice is about stand before the notice's line. What is told of an output is written at once,
-/// and nothing is flushed.
-pub(crate) fn write_notices<W: Write>(
+// Writes the line of each notice as it stands in an output file. If drops are told, it writes a
+// line for each, except those of keep-alives. In a session, the header lines of the datagram that
+// a notice is about stand before the notice's line. What is told of an output is written at once,
+// and nothing is flushed.
+fn write_notices<W: Write>(
     alloc: Global,
     writer: &mut W,
     telling: Telling,
@@ -48,6 +48,25 @@ pub(crate) fn write_notices<W: Write>(
         write_text(writer, &text)?;
     }
     Ok(())
+}
+
+/// Writes the notices of a round, and flushes.
+///
+/// # Errors
+///
+/// `Output` or `NoMemory`.
+pub(crate) fn write_round<W: Write>(
+    alloc: Global,
+    writer: &mut W,
+    telling: Telling,
+    round: &Round,
+    outputs: &[PlacedOutput],
+) -> Result<(), UaFault> {
+    write_notices(alloc, writer, telling, round.events.as_slice(), outputs)?;
+    match writer.flush() {
+        Ok(()) => Ok(()),
+        Err(_) => Err(UaFault::Output),
+    }
 }
 
 /// Writes a line with the id of each command among the events of the round with this number.

@@ -21,20 +21,20 @@ use std::time::Clock;
 /// What another agent needs: an endpoint at the same socket, a user, and where it tells its
 /// notices.
 #[derive(Drop)]
-pub(crate) struct OtherAgent<U> {
+pub(crate) struct OtherAgent {
     pub(crate) endpoint: Endpoint<Vec<u8>>,
-    pub(crate) user: U,
+    pub(crate) user: User,
     pub(crate) notices: QueuedEnd,
 }
 
 /// The station of another agent, which is never recorded. What is wrong is kept until the end.
-pub(crate) struct OtherStation<U> {
-    pub(crate) station: Station<U, Vec<u8>>,
+pub(crate) struct OtherStation {
+    pub(crate) station: Station<Vec<u8>>,
     pub(crate) notices: QueuedEnd,
     pub(crate) errors: Vec<u8>,
 }
 
-impl<U: Drop> Drop for OtherStation<U> {
+impl Drop for OtherStation {
     fn drop(self) {
         let OtherStation {
             station: _,
@@ -44,13 +44,13 @@ impl<U: Drop> Drop for OtherStation<U> {
     }
 }
 
-impl<U: User> OtherStation<U> {
+impl OtherStation {
     /// The station of this agent, and the poster of its line.
     pub(crate) fn open<R: Threads + Clock + Sync>(
         rt: &R,
         alloc: Global,
-        agent: OtherAgent<U>,
-    ) -> Result<(OtherStation<U>, Poster<Event>), UaFault>
+        agent: OtherAgent,
+    ) -> Result<(OtherStation, Poster<Event>), UaFault>
         ensures { IfOk result (λ made. IsPosterOf made.0.station.desk made.1) }
     {
         let OtherAgent {
@@ -60,7 +60,7 @@ impl<U: User> OtherStation<U> {
         } = agent;
         let mut errors = Vec::new(alloc);
         let (told, wrong) = (&mut notices, &mut errors);
-        let (station, line) = Station::open(rt, alloc, endpoint, user, None, told, wrong)?;
+        let (station, line) = Station::open(rt, alloc, endpoint, user, told, wrong)?;
         let other = OtherStation {
             station,
             notices,
@@ -74,7 +74,7 @@ impl<U: User> OtherStation<U> {
         rt: &R,
         flags: &Flags,
         barrier: &Barrier,
-    ) -> OtherStation<U>
+    ) -> OtherStation
         ensures { KeepsItsLine self result }
     {
         let OtherStation {
@@ -96,18 +96,18 @@ impl<U: User> OtherStation<U> {
 /// # Errors
 ///
 /// Memory ran out. Then the stations are lost.
-pub(crate) fn run_others<R: Threads + Clock + Sync, U: User + Send>(
+pub(crate) fn run_others<R: Threads + Clock + Sync>(
     rt: &R,
     flags: &Flags,
     barrier: &Barrier,
-    others: Vec<OtherStation<U>>,
-) -> Result<Vec<OtherStation<U>>, AllocError>
+    others: Vec<OtherStation>,
+) -> Result<Vec<OtherStation>, AllocError>
     ensures { IfOk result (λ ran. AllZip KeepsItsLine others.items ran.items) }
 {
     let ran = thread::map_vec(
         rt,
         others,
-        &|other: OtherStation<U>| -> OtherStation<U>
+        &|other: OtherStation| -> OtherStation
             ensures { KeepsItsLine other result }
         { other.run(rt, flags, barrier) },
     )?;

@@ -32,26 +32,22 @@ impl Outlet for UdpSocket {
     ghost asked = { λ _. None };
 
     fn send(&mut self, to: Addr, bytes: &[u8]) -> bool {
-        match self.send_to(bytes, socket_address(to)) {
-            Ok(count) => count == bytes.len(),
-            Err(_) => false,
-        }
+        is_sent(self, to, bytes)
     }
 }
 
-/// A socket that counts the sends that failed.
-#[derive(Drop)]
-pub(crate) struct CountedSocket {
-    pub socket: UdpSocket,
+/// A socket, and how many sends failed.
+#[derive(Clone, Copy)]
+pub(crate) struct CountedSocket<'a> {
+    pub socket: &'a UdpSocket,
     pub failed: u64,
 }
 
-/// It doesn't tell what it was asked to send.
-impl Outlet for CountedSocket {
+impl Outlet for CountedSocket<'_> {
     ghost asked = { λ _. None };
 
     fn send(&mut self, to: Addr, bytes: &[u8]) -> bool {
-        let is_sent = Outlet::send(&mut self.socket, to, bytes);
+        let is_sent = is_sent(self.socket, to, bytes);
         if !is_sent {
             self.failed = self.failed.saturating_add(1);
         }
@@ -59,6 +55,11 @@ impl Outlet for CountedSocket {
     }
 }
 
-fn socket_address(to: Addr) -> SocketAddrV4 {
-    SocketAddrV4::new(Ipv4Addr::from_octets(to.ip), to.port)
+// Sends a datagram, and says whether it could.
+fn is_sent(socket: &UdpSocket, to: Addr, bytes: &[u8]) -> bool {
+    let address = SocketAddrV4::new(Ipv4Addr::from_octets(to.ip), to.port);
+    match socket.send_to(bytes, address) {
+        Ok(count) => count == bytes.len(),
+        Err(_) => false,
+    }
 }

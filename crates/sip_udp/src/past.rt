@@ -5,7 +5,7 @@ use crate::record_file::RecordFile;
 use sip_files::{EventsFault, FileKind, read_file, write_file_head};
 use sip_journal::first_round_of;
 use sip_round::Config;
-use std::alloc::{AllocError, Global};
+use std::alloc::Global;
 
 /// How many bytes are read at once.
 const CHUNK: usize = 65_536;
@@ -54,8 +54,13 @@ impl Past {
                 Err(UaFault::NoJournal)
             };
         };
-        let config = config_of(self.alloc, &lines)?;
-        if is_head(self.alloc, &config, &lines)? {
+        let config = match read_file(self.alloc, FileKind::Session, &lines) {
+            Ok((config, _)) => config,
+            Err(EventsFault::NoMemory) => return Err(UaFault::NoMemory),
+            Err(_) => return Err(UaFault::NoJournal),
+        };
+        // The head as it is written has all that a session may leave out.
+        if write_file_head(self.alloc, FileKind::Session, &config)? == lines {
             Ok(Some(config))
         } else {
             Err(UaFault::NoJournal)
@@ -121,21 +126,6 @@ impl Past {
         }
         Ok(())
     }
-}
-
-// The configuration that these lines say.
-fn config_of(alloc: Global, lines: &[u8]) -> Result<Config, UaFault> {
-    match read_file(alloc, FileKind::Session, lines) {
-        Ok((config, _)) => Ok(config),
-        Err(EventsFault::NoMemory) => Err(UaFault::NoMemory),
-        Err(_) => Err(UaFault::NoJournal),
-    }
-}
-
-// Whether these lines are the head as it is written, which has all that a session may leave out.
-fn is_head(alloc: Global, config: &Config, lines: &[u8]) -> Result<bool, AllocError> {
-    let head = write_file_head(alloc, FileKind::Session, config)?;
-    Ok(head.as_slice() == lines)
 }
 
 // A text up to its last line feed.

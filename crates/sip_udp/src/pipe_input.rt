@@ -9,7 +9,7 @@ ghost use Rattle.sip_udp.specs.Piping.{PostsAll, PostsFront, Says, SaysRead, is_
 use crate::fault::UaFault;
 use crate::line_end::without;
 use crate::listener::Flags;
-use crate::wrong_word::{WrongWord, wrong_word};
+use crate::wrong_word::{Wrong, wrong_word};
 use sip_desk::Poster;
 use sip_files::{FileKind, GivenHeader, read_command_line, read_header_line};
 use sip_user::UserCommand;
@@ -28,8 +28,8 @@ pub(crate) struct PipeLine {
     /// The number of the line, from 1.
     pub number: u64,
     pub said: Said,
-    /// What is wrong with it, if it isn't a command.
-    pub wrong: Option<WrongWord>,
+    /// What is wrong with it, if it has no part in a command.
+    pub wrong: Option<Wrong>,
 }
 
 /// What a line of the pipe says.
@@ -108,7 +108,9 @@ fn said_by(alloc: Global, kind: FileKind, number: u64, text: &[u8]) -> Result<Pi
     let line = without_end(text);
     let said = line_says(alloc, kind, line)?;
     let wrong = match &said {
-        Said::NoCommand => Some(wrong_word(alloc, kind, line)?),
+        Said::NoCommand => Some(Wrong::Word(wrong_word(alloc, kind, line)?)),
+        Said::NoHeader => Some(Wrong::Header),
+        Said::TooLong => Some(Wrong::Length),
         _ => None,
     };
     Ok(PipeLine {

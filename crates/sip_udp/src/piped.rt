@@ -5,13 +5,10 @@ ghost use Rattle.sip_udp.specs.Piping as piping;
 
 use crate::listener::Flags;
 use crate::pipe_input::PipeLine;
-use crate::time_limit::TimeLeft;
 use crate::turns::MOST_COLLECTED;
-use crate::user::User;
 use crate::waiting::Waiting;
 use sip_desk::Desk;
 use sip_round::Event;
-use sip_user::Notice;
 use std::alloc::{AllocError, Global};
 use std::io::Write;
 use std::sync::Arc;
@@ -24,7 +21,7 @@ pub(crate) struct Piped {
     pipe: Desk<PipeLine>,
     // The header lines that wait for their command.
     waiting: Waiting,
-    flags: Arc<Flags>,
+    pub(crate) flags: Arc<Flags>,
     linger: u32,
     // The moment at which everything from the pipe had been taken.
     ended_at: Option<u64>,
@@ -45,28 +42,17 @@ impl Piped {
             ended_at: None,
         }
     }
-}
 
-impl User for Piped {
-    fn begin(&mut self, _alloc: Global, _events: &mut Vec<Event>) -> Result<(), AllocError> {
-        Ok(())
-    }
-
-    fn told(
-        &mut self,
-        _alloc: Global,
-        _now: u64,
-        _notice: &Notice,
-        _events: &mut Vec<Event>,
-    ) -> Result<(), AllocError> {
-        Ok(())
-    }
-
-    fn turn<E: Write>(
+    /// Adds what the lines ask for that have come by the moment `now`. What is wrong with them is
+    /// written to `errors`.
+    ///
+    /// # Errors
+    ///
+    /// Memory ran out.
+    pub(crate) fn turn<E: Write>(
         &mut self,
         alloc: Global,
         now: u64,
-        _left: TimeLeft,
         events: &mut Vec<Event>,
         errors: &mut E,
     ) -> Result<(), AllocError> {
@@ -84,19 +70,13 @@ impl User for Piped {
         ask_for(alloc, lines, &mut self.waiting, events, errors)
     }
 
-    fn is_over(&self, now: u64, holds: bool) -> bool {
+    /// Whether it wants no more turns at the moment `now`, when the agent holds something or
+    /// nothing.
+    pub(crate) fn is_over(&self, now: u64, holds: bool) -> bool {
         match self.ended_at {
             None => false,
             Some(ended_at) => !holds || now >= ended_at.saturating_add(u64::from(self.linger)),
         }
-    }
-
-    fn is_eager(&self) -> bool {
-        true
-    }
-
-    fn is_satisfied(&self) -> bool {
-        true
     }
 }
 

@@ -10,6 +10,7 @@ use crate::notices::put;
 use crate::past::Past;
 use crate::record_file::RecordFile;
 use sip_files::{FileKind, MAX_EVENTS, write_file_head, write_file_round};
+use sip_journal::{LinesFault, read_round};
 use sip_round::{Config, Round};
 use std::alloc::Global;
 use std::fmt::Display;
@@ -20,7 +21,7 @@ use std::io::Write;
 const MAX_LINES: usize = MAX_EVENTS - 4096;
 
 /// What becomes of a run whose record can't be written.
-#[derive(Clone, Copy, PartialEq, Eq)]
+#[derive(Clone, Copy)]
 pub enum Keeping {
     /// It goes on without its record.
     MayFail,
@@ -34,64 +35,93 @@ pub(crate) struct Record<F> {
     file: Option<F>,
     kind: FileKind,
     keeping: Keeping,
-    // Whether it is a journal, and whether the file has its head.
-    is_journal: bool,
+    /// Whether it is a journal.
+    pub(crate) is_journal: bool,
+    // Whether the file has its head.
     has_head: bool,
 }
 
 impl<F: RecordFile> Record<F> {
-    /// A record in this kind of file, if there is a file.
-    pub(crate) fn new(kind: FileKind, file: Option<F>) -> Record<F> {
-        Record {
-            file,
-            kind,
-            keeping: Keeping::MayFail,
-            is_journal: false,
-            has_head: false,
+    /// A record in this kind of file, if there is a file; a journal, if there is a past.
+    pub(crate) fn new(
+        file: Option<F>,
+        kind: FileKind,
+        keeping: Keeping,
+        past: Option<&Past>,
+    ) -> Record<F> {
+        match past {
+            Some(past) => Record {
+                file,
+                kind: FileKind::Session,
+                keeping,
+                is_journal: true,
+                has_head: !past.is_empty(),
+            },
+            None => Record {
+                file,
+                kind,
+                keeping: Keeping::MayFail,
+                is_journal: false,
+                has_head: false,
+            },
         }
     }
 
-    /// A journal, of which this much was read.
-    pub(crate) fn journal(file: Option<F>, keeping: Keeping, past: &Past) -> Record<F> {
-        Record {
-            file,
-            kind: FileKind::Session,
-            keeping,
-            is_journal: true,
-            has_head: !past.is_empty(),
-        }
-    }
-
-    /// Whether it is a journal.
-    pub(crate) fn is_journal(&self) -> bool {
-        self.is_journal
-    }
-
-    /// The next lines of a journal; none at its end.
+    /// The next round of a journal, which has this number. None at the end, or if the last round
+    /// isn't whole.
     ///
     /// # Errors
     ///
-    /// `Journal` if the file can't be read, or `NoMemory`.
-    pub(crate) fn next_lines(&mut self, past: &mut Past) -> Result<Option<Vec<u8>>, UaFault> {
-        match &mut self.file {
-            Some(file) => past.next_lines(file),
-            None => Ok(None),
+    /// `JournalLines` if its lines aren't those of a round; `Journal` if the file can't be read, or
+    /// `NoMemory`.
+    pub(crate) fn next_round(
+        &mut self,
+        alloc: Global,
+        past: &mut Past,
+        number: u64,
+    ) -> Result<Option<Round>, UaFault> {
+        let Some(file) = &mut self.file else {
+            return Ok(None);
+        };
+        let Some(lines) = past.next_lines(file)? else {
+            return Ok(None);
+        };
+        match read_round(alloc, &lines) {
+            Ok(round) => Ok(Some(round)),
+            Err(LinesFault::NoMemory) => Err(UaFault::NoMemory),
+            Err(_) if past.is_over() => Ok(None),
+            Err(fault) => Err(UaFault::JournalLines { number, fault }),
         }
     }
 
-    /// Leaves only so many bytes, the first ones.
+    /// Leaves only so many of the bytes that were read, those of whole rounds, and says how many are
+    /// left out, if any.
     ///
     /// # Errors
     ///
     /// `Journal`.
-    pub(crate) fn cut(&mut self, len: u64) -> Result<(), UaFault> {
-        match &mut self.file {
-            Some(file) => match file.cut(len) {
-                Ok(()) => Ok(()),
-                Err(_) => Err(UaFault::Journal),
-            },
-            None => Ok(()),
+    pub(crate) fn cut<E: Write>(
+        &mut self,
+        read: u64,
+        whole: u64,
+        errors: &mut E,
+    ) -> Result<(), UaFault> {
+        let left_out = read.saturating_sub(whole);
+        if left_out == 0 {
+            return Ok(());
         }
+        let is_cut = match &mut self.file {
+            Some(file) => file.cut(whole).is_ok(),
+            None => true,
+        };
+        if !is_cut {
+            return Err(UaFault::Journal);
+        }
+        let _ = writeln!(
+            errors,
+            "ua: {left_out} bytes at the end of the journal left out"
+        );
+        Ok(())
     }
 
     /// Records the head, if the file doesn't have it.

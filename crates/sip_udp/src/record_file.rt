@@ -24,5 +24,3 @@ pub trait RecordFile: Write + Drop {
 }
 
 impl RecordFile for Vec<u8> {}
-
-impl RecordFile for &mut Vec<u8> {}

@@ -1,6 +1,6 @@
 //! Responses that a repeat of a request has sent again, though it came from elsewhere.
 
-ghost use Rattle.std.specs.Prelude.{◌≡◌, ◌-◌, Some, filter, length, not};
+ghost use Rattle.std.specs.Prelude.{◌≡◌, ◌-◌, filter, length, not};
 ghost use Rattle.sip_udp.specs.Reflected as spec;
 
 use sip_round::{Event, Output, PlacedOutput, event_at};
@@ -25,17 +25,8 @@ pub(crate) fn take_reflected(events: &[Event], outputs: &mut Vec<PlacedOutput>) 
 fn is_reflected(events: &[Event], placed: &PlacedOutput) -> bool
     ensures { result ≡ spec.is_reflected events.now placed.now }
 {
-    match event_at(events, placed.place) {
-        Some(event) => goes_elsewhere(event, &placed.output),
-        None => false,
-    }
-}
-
-fn goes_elsewhere(event: &Event, output: &Output) -> bool
-    ensures { result ≡ spec.goes_elsewhere (Some event.now) output.now }
-{
-    match (event, output) {
-        (Event::Datagram { from, .. }, Output::Send { to, bytes, .. }) => {
+    match (event_at(events, placed.place), &placed.output) {
+        (Some(Event::Datagram { from, .. }), Output::Send { to, bytes, .. }) => {
             bytes.as_slice().starts_with(RESPONSE) && to.ip != from.ip
         }
         _ => false,

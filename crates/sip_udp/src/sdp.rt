@@ -2,9 +2,9 @@
 //! 4566; RFC 3264, section 6).
 
 use crate::line_end::without;
-use sip_message::ip_text;
 use sip_text::{Text, cut};
 use std::alloc::{AllocError, Global};
+use std::net::Ipv4Addr;
 
 /// An audio stream, for an offer.
 const AUDIO: &[u8] = b"m=audio 9 RTP/AVP 0 8";
@@ -46,16 +46,9 @@ pub(crate) fn inactive(
 
 // The lines before those of times and streams.
 fn head(alloc: Global, ip: [u8; 4], version: u32) -> Result<Text, AllocError> {
-    let [_a, _b, _c, _d] = ip;
-    let ip = ip_text(ip);
-    let version = format!(in alloc; "{version}")?;
-    let mut text = Text::copy_of(alloc, b"v=0\r\no=- 0 ")?;
-    text.extend_from_slice(version.as_bytes())?;
-    text.extend_from_slice(b" IN IP4 ")?;
-    put_line(&mut text, &ip)?;
-    text.extend_from_slice(b"s=-\r\nc=IN IP4 ")?;
-    put_line(&mut text, &ip)?;
-    Ok(text)
+    let ip = Ipv4Addr::from_octets(ip);
+    let text = format!(in alloc; "v=0\r\no=- 0 {version} IN IP4 {ip}\r\ns=-\r\nc=IN IP4 {ip}\r\n")?;
+    Ok(Text::from_vec(text.into_bytes()))
 }
 
 // Whether the line describes a format. An answer repeats such a line (RFC 3264, section 6.1).
@@ -71,7 +64,12 @@ fn put_stream(text: &mut Text, line: &[u8]) -> Result<bool, AllocError> {
     let Some((port, after)) = cut(b' ', after) else {
         return Ok(false);
     };
-    let is_taken = is_stream_taken(port, after);
+    let is_taken = match cut(b' ', after) {
+        Some((protocol, _)) => {
+            port != b"0".as_slice() && TAKEN.iter().any(|taken| protocol == *taken)
+        }
+        None => false,
+    };
     // The discard port, since no port is used, or that of a refused stream.
     let own_port = if is_taken { b" 9 ".as_slice() } else { b" 0 " };
     text.extend_from_slice(media)?;
@@ -81,16 +79,6 @@ fn put_stream(text: &mut Text, line: &[u8]) -> Result<bool, AllocError> {
         put_line(text, b"a=inactive")?;
     }
     Ok(is_taken)
-}
-
-// Whether a stream with this port is accepted; `after` is its protocol and formats.
-fn is_stream_taken(port: &[u8], after: &[u8]) -> bool {
-    match cut(b' ', after) {
-        Some((protocol, _)) => {
-            port != b"0".as_slice() && TAKEN.iter().any(|taken| protocol == *taken)
-        }
-        None => false,
-    }
 }
 
 fn put_line(text: &mut Text, line: &[u8]) -> Result<(), AllocError> {

@@ -11,8 +11,8 @@ pub(crate) struct SharedPlan {
     /// The agents' own IP address.
     pub(crate) ip: [u8; 4],
     pub(crate) plan: ListenPlan,
-    // How many calls got a 2xx.
-    answered: AtomicU64,
+    /// How many calls got a 2xx.
+    pub(crate) answered: AtomicU64,
 }
 
 impl SharedPlan {
@@ -33,11 +33,6 @@ impl SharedPlan {
             Ok(shared) => Ok(shared),
             Err(_) => Err(AllocError),
         }
-    }
-
-    /// One more call got a 2xx.
-    pub(crate) fn count_answered(&self) {
-        self.answered.fetch_add(1, Ordering::SeqCst);
     }
 
     /// Whether as many calls got a 2xx as have to.

@@ -4,33 +4,32 @@ ghost use Rattle.std.specs.Prelude.{◌≡◌, [], ◌∷◌, ◌++◌, IfOk, If
 ghost use Rattle.std.specs.List.{AllZip};
 ghost use Rattle.sip_desk.specs.Lines.{IsEndOf, IsPosterOf, KeepsLines, all_posted, taken};
 ghost use Rattle.sip_udp.specs.Stations.{EndsStation, KeepsItsLine, desks_of};
-ghost use denote.Param.Send.{IsSend, IsSync};
+ghost use denote.Param.Send.{IsSync};
 
 use crate::barrier::Barrier;
-use crate::counts::Losses;
+use crate::counts::Tally;
 use crate::fault::UaFault;
 use crate::listener::{Flags, Heard};
 use crate::other_station::{OtherAgent, OtherStation, run_others};
 use crate::record_file::RecordFile;
 use crate::station::{DATAGRAMS_WAITING, Station};
-use crate::turns::Turns;
-use crate::user::User;
 use sip_desk::{Desk, Ended, Poster};
 use sip_round::Event;
 use std::alloc::{AllocError, Global};
 use std::io::Write;
+use std::rt::Files;
 use std::thread::{self, Threads};
 use std::time::Clock;
 
 /// Opens the stations of these agents. Gives them, and the lines of all: first `line`, the caller's
 /// own, and then those of the others, in order.
-pub(crate) fn open_others<R: Threads + Clock + Sync, U: User, F: RecordFile>(
+pub(crate) fn open_others<R: Threads + Clock + Sync, F: RecordFile>(
     rt: &R,
     alloc: Global,
-    own: &Station<U, F>,
+    own: &Station<F>,
     line: Poster<Event>,
-    agents: Vec<OtherAgent<U>>,
-) -> Result<(Vec<OtherStation<U>>, Vec<Poster<Event>>), UaFault>
+    agents: Vec<OtherAgent>,
+) -> Result<(Vec<OtherStation>, Vec<Poster<Event>>), UaFault>
     requires { IsPosterOf own.now.desk line }
     ensures { IfOk result (λ made. AllZip IsPosterOf (desks_of own.now made.0.items)
         made.1.items) }
@@ -59,14 +58,14 @@ pub(crate) fn add<T: Drop>(items: &mut Vec<T>, item: T) -> Result<(), AllocError
 }
 
 /// Runs all stations, each on a thread of its own; the caller's own on the calling thread.
-pub(crate) fn run_all<R: Threads + Clock + Sync, U: User + Send, F: RecordFile, W: Write, E: Write>(
+pub(crate) fn run_all<R: Threads + Clock + Sync, F: RecordFile, W: Write, E: Write>(
     rt: &R,
     flags: &Flags,
-    own: Station<U, F>,
-    others: Vec<OtherStation<U>>,
+    own: Station<F>,
+    others: Vec<OtherStation>,
     notices: &mut W,
     errors: &mut E,
-) -> (Station<U, F>, Result<Vec<OtherStation<U>>, AllocError>)
+) -> (Station<F>, Result<Vec<OtherStation>, AllocError>)
     ensures own { KeepsLines own.desk result.0.desk }
     ensures others { IfOk result.1 (λ ran. AllZip KeepsItsLine others.items ran.items) }
 {
@@ -78,11 +77,11 @@ pub(crate) fn run_all<R: Threads + Clock + Sync, U: User + Send, F: RecordFile, 
     }
     let (ran, own) = thread::join(
         rt,
-        move || -> Result<Vec<OtherStation<U>>, AllocError>
-            requires { IsSync R.row × IsSend U.row }
+        move || -> Result<Vec<OtherStation>, AllocError>
+            requires { IsSync R.row }
             ensures { IfOk result (λ ran. AllZip KeepsItsLine others.items ran.items) }
         { run_others(rt, flags, barrier, others) },
-        move || -> Station<U, F>
+        move || -> Station<F>
             ensures { KeepsLines own.desk result.desk }
         { own.run(rt, flags, barrier, notices, errors) },
     );
@@ -94,94 +93,61 @@ pub(crate) fn run_all<R: Threads + Clock + Sync, U: User + Send, F: RecordFile, 
 ///
 /// # Errors
 ///
-/// The first fault.
-pub(crate) fn conclude<U: User, F: RecordFile, E: Write>(
-    own: &mut Station<U, F>,
-    others: Vec<OtherStation<U>>,
+/// The first fault of a station, or that of the listener; `NotAnswered` if the user didn't get the
+/// least that it had to get.
+pub(crate) fn conclude<R: Files, F: RecordFile, E: Write>(
+    rt: &R,
+    own: &mut Station<F>,
+    others: Vec<OtherStation>,
     heard: Heard,
-    by_system: Option<u64>,
     errors: &mut E,
 ) -> Result<(), UaFault>
     requires { IfSome heard.ends (λ ends. AllZip EndsStation (desks_of own.old others.items)
         ends.items) }
 {
-    let Heard { ends, fault, lost } = heard;
-    let losses = Losses {
-        unsent: unsent(own.outlet.failed, &others),
-        unposted: lost,
-        by_system,
-    };
-    report(own, &others, losses, fault, errors)?;
-    if let Some(ends) = ends {
+    report(rt, &mut own.turns.tally, own.fault, &others, &heard, errors)?;
+    if let Some(ends) = heard.ends {
         settle_all(&mut own.desk, others, ends)?;
     }
-    own.turns.verdict()
+    if own.turns.user.is_satisfied() {
+        Ok(())
+    } else {
+        Err(UaFault::NotAnswered)
+    }
 }
 
 // Writes what was wrong with the others, and the counts of all together. Gives the first fault of a
-// station, or that of the listener.
-fn report<U: User, F: RecordFile, E: Write>(
-    own: &mut Station<U, F>,
-    others: &[OtherStation<U>],
-    losses: Losses,
-    of_listener: Option<UaFault>,
+// station, the own one first, or that of the listener.
+fn report<R: Files, E: Write>(
+    rt: &R,
+    own: &mut Tally,
+    own_fault: Option<UaFault>,
+    others: &[OtherStation],
+    heard: &Heard,
     errors: &mut E,
-) -> Result<(), UaFault>
-    ensures { own.new.desk ≡ own.old.desk }
-{
-    write_errors(others, errors);
-    let counted = add_counts(&mut own.turns, others);
-    own.turns.tell_counts(losses, errors);
-    none_of(own.fault)?;
-    none_of_others(others)?;
-    none_of(of_listener)?;
-    Ok(counted?)
-}
-
-// How many datagrams couldn't be sent: so many, and those of the others.
-fn unsent<U: User>(own: u64, others: &[OtherStation<U>]) -> u64 {
-    let mut unsent = own;
-    for other in others {
-        unsent = unsent.saturating_add(other.station.outlet.failed);
-    }
-    unsent
-}
-
-fn write_errors<U: User, E: Write>(others: &[OtherStation<U>], errors: &mut E) {
+) -> Result<(), UaFault> {
+    let mut unsent = own.unsent;
+    let mut fault = own_fault;
+    let mut counted = Ok(());
     for other in others {
         let _ = errors.write_all(&other.errors);
+        unsent = unsent.saturating_add(other.station.turns.tally.unsent);
+        fault = fault.or(other.station.fault);
+        if counted.is_ok() {
+            counted = own.add_all(&other.station.turns.tally);
+        }
     }
-}
-
-// Adds what the others counted.
-fn add_counts<U: User, F: RecordFile>(
-    turns: &mut Turns<U, F>,
-    others: &[OtherStation<U>],
-) -> Result<(), AllocError> {
-    for other in others {
-        turns.add_counts(&other.station.turns)?;
-    }
-    Ok(())
-}
-
-fn none_of(fault: Option<UaFault>) -> Result<(), UaFault> {
-    match fault {
+    own.tell(rt, unsent, heard.lost, errors);
+    match fault.or(heard.fault) {
         Some(fault) => Err(fault),
-        None => Ok(()),
+        None => Ok(counted?),
     }
-}
-
-fn none_of_others<U: User>(others: &[OtherStation<U>]) -> Result<(), UaFault> {
-    for other in others {
-        none_of(other.station.fault)?;
-    }
-    Ok(())
 }
 
 // Settles the lines of all stations.
-fn settle_all<U: User>(
+fn settle_all(
     own: &mut Desk<Event>,
-    mut others: Vec<OtherStation<U>>,
+    mut others: Vec<OtherStation>,
     mut ends: Vec<Option<Ended<Event>>>,
 ) -> Result<(), UaFault>
     requires { AllZip EndsStation (own.old ∷ map (λ other. other.station.desk) others.items)

@@ -43,8 +43,8 @@ const READ_TIMEOUT: u64 = 50;
 /// One more than the length of the longest datagram that is read, in bytes.
 const BUFFER: usize = 65_536;
 
-/// Takes part in calls for `turns` turns of 10 ms: it answers INVITE, BYE and OPTIONS with 200, and
-/// all other requests with 501. Each notice is written as a line of an output file.
+/// Takes part in calls for `turns` turns of 10 ms, as [`listen_at`] does: it answers INVITE, BYE and
+/// OPTIONS with 200. Each notice is written as a line of an output file.
 ///
 /// # Errors
 ///
@@ -58,17 +58,15 @@ pub fn listen<R: Threads + Clock + Files + Sync, W: Write>(
     turns: u32,
     notices: &mut W,
 ) -> Result<(), UaFault> {
-    let mut endpoint = Endpoint::new(socket, local, seed, None::<Vec<u8>>);
-    endpoint.turns = u64::from(turns);
-    let plan = ListenPlan::usual();
-    let others = Vec::new(alloc);
-    let mut errors = Vec::new(alloc);
-    listen_at(rt, alloc, endpoint, plan, notices, others, &mut errors)
+    let endpoint = Endpoint::<Vec<u8>>::usual(socket, local, seed, turns);
+    let (plan, others) = (ListenPlan::usual(), Vec::new(alloc));
+    listen_at(rt, alloc, endpoint, plan, notices, others, &mut io::sink())
 }
 
-/// Does what [`listen`] does, at an endpoint, and answers INVITEs by a plan. When the input of the
-/// endpoint has ended, calls that aren't answered get 480, and those that are up get a BYE; the
-/// turns end a second later. If recording is given up, `errors` says so.
+/// Takes part in calls at an endpoint: it answers INVITEs by a plan, BYE and OPTIONS with 200, and
+/// all other requests with 501. Each notice is written as a line of an output file. When the input
+/// of the endpoint has ended, calls that aren't answered get 480, and those that are up get a BYE;
+/// the turns end a second later. If recording is given up, `errors` says so.
 ///
 /// The endpoint may have several agents, each on a thread of its own: a call is that of the agent
 /// of its Call-ID. The first tells its notices to `notices`, and each other to one of `others`:
@@ -89,9 +87,9 @@ pub fn listen_at<R: Threads + Clock + Files + Sync, F: RecordFile, W: Write, E: 
     let agents = endpoint.agents().min(others.len() + 1);
     endpoint.share_limit(agents);
     let plan = SharedPlan::new(alloc, endpoint.config.local.ip, plan)?;
-    let user = Answering::new(alloc, plan.clone()?);
+    let user = User::Answering(Answering::new(alloc, plan.clone()?));
     let others = other_agents(alloc, &endpoint, &plan, agents, others)?;
-    talk(rt, alloc, endpoint, user, others, None, notices, errors)
+    talk(rt, alloc, endpoint, user, others, notices, errors)
 }
 
 // The agents from the second on, of so many. Each tells its notices to one of the writers.
@@ -101,7 +99,7 @@ fn other_agents<F: RecordFile>(
     plan: &Arc<SharedPlan>,
     agents: usize,
     mut writers: Vec<QueuedEnd>,
-) -> Result<Vec<OtherAgent<Answering>>, UaFault>
+) -> Result<Vec<OtherAgent>, UaFault>
     requires most { agents ≤ 16 }
     requires room { 1 < agents → endpoint.now.config.first < 2 ^ 58 }
 {
@@ -112,7 +110,7 @@ fn other_agents<F: RecordFile>(
         };
         let agent = OtherAgent {
             endpoint: endpoint.of_agent(number)?,
-            user: Answering::new(alloc, plan.clone()?),
+            user: User::Answering(Answering::new(alloc, plan.clone()?)),
             notices,
         };
         add(&mut others, agent)?;
@@ -138,16 +136,15 @@ pub fn call<R: Threads + Clock + Files + Sync, W: Write>(
     turns: u32,
     notices: &mut W,
 ) -> Result<(), UaFault> {
-    let mut endpoint = Endpoint::new(socket, local, seed, None::<Vec<u8>>);
-    endpoint.turns = u64::from(turns);
+    let endpoint = Endpoint::<Vec<u8>>::usual(socket, local, seed, turns);
     let plan = CallPlan::usual(alloc, to, uri, call_id);
-    let mut errors = Vec::new(alloc);
-    call_from(rt, alloc, endpoint, plan, notices, &mut errors)
+    call_from(rt, alloc, endpoint, plan, notices, &mut io::sink())
 }
 
-/// Does what [`call`] does, from an endpoint and by a plan. When the input of the endpoint has
-/// ended, the call is cancelled or ended, and the turns end at most a second later. If recording is
-/// given up, `errors` says so.
+/// Calls from an endpoint by a plan, and ends each dialog that a 2xx confirms. Each notice is
+/// written as a line of an output file. When the input of the endpoint has ended, the call is
+/// cancelled or ended, and the turns end at most a second later. If recording is given up, `errors`
+/// says so.
 ///
 /// # Errors
 ///
@@ -160,9 +157,9 @@ pub fn call_from<R: Threads + Clock + Files + Sync, F: RecordFile, W: Write, E: 
     notices: &mut W,
     errors: &mut E,
 ) -> Result<(), UaFault> {
-    let user = Calling::new(alloc, &endpoint.config, plan)?;
+    let user = User::Calling(Calling::new(alloc, &endpoint.config, plan)?);
     let others = Vec::new(alloc);
-    talk(rt, alloc, endpoint, user, others, None, notices, errors)
+    talk(rt, alloc, endpoint, user, others, notices, errors)
 }
 
 /// Does what the lines of the input say. Each is a command as in an event file, or in a session
@@ -189,10 +186,8 @@ pub fn agent<
     errors: &mut E,
 ) -> Result<(), UaFault> {
     endpoint.turns = u64::MAX;
-    let bell = bell_of(rt, alloc)?;
-    let flags = flags_with(alloc, Some(&bell))?;
+    let (user, flags, mut line) = piped(rt, alloc, linger)?;
     let their_flags = flags.clone()?;
-    let (user, mut line) = piped(alloc, &flags, linger)?;
     let kind = endpoint.kind;
     let Ok(feeder) = thread::spawn(rt, move || {
         feed(alloc, kind, input, &mut line, their_flags)
@@ -200,23 +195,24 @@ pub fn agent<
         return Err(UaFault::Socket);
     };
     let others = Vec::new(alloc);
-    let bell = Some(bell);
-    let end = talk(rt, alloc, endpoint, user, others, bell, notices, errors);
+    let end = talk(rt, alloc, endpoint, user, others, notices, errors);
     flags.stop.store(true, Ordering::SeqCst);
     end?;
     feeder.join(rt)?;
     Ok(())
 }
 
-// The user at the line of a pipe, and the poster of that line.
-fn piped(
+// The user at the line of a pipe, and the flags and the poster of that line.
+fn piped<N: Net>(
+    rt: &N,
     alloc: Global,
-    flags: &Arc<Flags>,
     linger: u32,
-) -> Result<(Piped, Poster<PipeLine>), UaFault> {
-    let flags = flags.clone()?;
+) -> Result<(User, Arc<Flags>, Poster<PipeLine>), UaFault> {
+    let bell = bell_of(rt, alloc)?;
+    let flags = flags_with(alloc, Some(&bell))?;
     let (pipe, line) = one_line(alloc, MOST_COLLECTED)?;
-    Ok((Piped::new(alloc, pipe, flags, linger), line))
+    let user = Piped::new(alloc, pipe, flags.clone()?, linger);
+    Ok((User::Piped(user), flags, line))
 }
 
 /// The ends of the listener's lines belong to their posters.
@@ -239,11 +235,11 @@ fn bell_of<N: Net>(rt: &N, alloc: Global) -> Result<Arc<Bell>, UaFault> {
 }
 
 fn flags_with(alloc: Global, bell: Option<&Arc<Bell>>) -> Result<Arc<Flags>, UaFault> {
-    let bell = match bell {
-        Some(bell) => Some(bell.clone()?),
-        None => None,
-    };
-    match Arc::new(alloc, Flags::with_bell(bell)) {
+    let mut flags = Flags::new();
+    if let Some(bell) = bell {
+        flags.bell = Some(bell.clone()?);
+    }
+    match Arc::new(alloc, flags) {
         Ok(flags) => Ok(flags),
         Err(_) => Err(UaFault::NoMemory),
     }
@@ -259,7 +255,13 @@ struct Ears {
 
 impl Ears {
     fn new(alloc: Global, socket: &UdpSocket, flags: &Arc<Flags>) -> Result<Ears, UaFault> {
-        let Ok(socket) = timed_clone(socket) else {
+        if socket
+            .set_read_timeout(Some(Duration::from_millis(READ_TIMEOUT)))
+            .is_err()
+        {
+            return Err(UaFault::Socket);
+        }
+        let Ok(socket) = socket.try_clone() else {
             return Err(UaFault::Socket);
         };
         Ok(Ears {
@@ -282,36 +284,35 @@ impl Ears {
 }
 
 // Opens the stations of all agents at an endpoint, and runs them.
-fn talk<R: Threads + Clock + Files + Sync, U: User + Send, F: RecordFile, W: Write, E: Write>(
+fn talk<R: Threads + Clock + Files + Sync, F: RecordFile, W: Write, E: Write>(
     rt: &R,
     alloc: Global,
     endpoint: Endpoint<F>,
-    user: U,
-    others: Vec<OtherAgent<U>>,
-    bell: Option<Arc<Bell>>,
+    user: User,
+    others: Vec<OtherAgent>,
     notices: &mut W,
     errors: &mut E,
 ) -> Result<(), UaFault> {
-    let (own, line) = Station::open(rt, alloc, endpoint, user, bell, notices, errors)?;
+    let (own, line) = Station::open(rt, alloc, endpoint, user, notices, errors)?;
     let (others, lines) = open_others(rt, alloc, &own, line, others)?;
     run_heard(rt, alloc, own, others, lines, notices, errors)
 }
 
 // Starts the listener, which posts to these lines, takes the turns of all agents, and joins the
 // listener.
-fn run_heard<R: Threads + Clock + Files + Sync, U: User + Send, F: RecordFile, W: Write, E: Write>(
+fn run_heard<R: Threads + Clock + Files + Sync, F: RecordFile, W: Write, E: Write>(
     rt: &R,
     alloc: Global,
-    own: Station<U, F>,
-    others: Vec<OtherStation<U>>,
+    own: Station<F>,
+    others: Vec<OtherStation>,
     lines: Vec<Poster<Event>>,
     notices: &mut W,
     errors: &mut E,
 ) -> Result<(), UaFault>
     requires { AllZip IsPosterOf (desks_of own others.items) lines.items }
 {
-    let flags = flags_with(alloc, own.turns.bell())?;
-    let ears = Ears::new(alloc, &own.outlet.socket, &flags)?;
+    let flags = flags_with(alloc, own.turns.user.bell())?;
+    let ears = Ears::new(alloc, &own.turns.endpoint.socket, &flags)?;
     let of_lines = OfLines(Snapshot::of(&lines));
     let listening = move || -> Heard
         ensures { IfSome result.ends (λ ends. AllZip EndsLine lines.items ends.items) }
@@ -319,16 +320,18 @@ fn run_heard<R: Threads + Clock + Files + Sync, U: User + Send, F: RecordFile, W
     let Ok(listener) = thread::spawn_with(rt, of_lines, listening) else {
         return Err(UaFault::Socket);
     };
-    own.announce(errors);
+    announce(&own.turns.endpoint, errors);
     let (mut own, ran) = run_all(rt, &flags, own, others, notices, errors);
     flags.stop.store(true, Ordering::SeqCst);
     let heard = listener.join(rt);
-    let by_system = own.system_drops(rt, alloc);
     let others = ran?;
-    conclude(&mut own, others, heard, by_system, errors)
+    conclude(rt, &mut own, others, heard, errors)
 }
 
-fn timed_clone(socket: &UdpSocket) -> io::Result<UdpSocket> {
-    socket.set_read_timeout(Some(Duration::from_millis(READ_TIMEOUT)))?;
-    socket.try_clone()
+// Says that datagrams can come, if that is to be said.
+fn announce<F, E: Write>(endpoint: &Endpoint<F>, errors: &mut E) {
+    if endpoint.is_announced {
+        let local = endpoint.config.local;
+        let _ = writeln!(errors, "ua: ready at {local}");
+    }
 }

@@ -5,6 +5,7 @@ ghost use Rattle.sip_udp.specs.declared.time_limit.TimeLeft.TheVariants as time_
 
 use crate::input_end::InputEnd;
 use std::sync::Arc;
+use std::sync::atomic::Ordering;
 
 /// How long before the end calls are ended, in ms.
 const LEAVING: u64 = 1_000;
@@ -17,7 +18,7 @@ const TURNS_OF_LEAVING: u64 = 100;
 const EMPTY: u64 = 1_000;
 
 /// How near the end of the turns is.
-#[derive(Clone, Copy, PartialEq, Eq)]
+#[derive(Clone, Copy)]
 pub(crate) enum TimeLeft {
     /// More than a second is left.
     More,
@@ -60,10 +61,11 @@ impl TimeLimit {
         let Some(input) = &self.input else {
             return;
         };
-        if !input.has_ended() {
+        if !input.has_ended.load(Ordering::SeqCst) {
             return;
         }
-        let is_empty = input.seen_at(now) < EMPTY && !input.has_bytes();
+        let has_bytes = input.has_bytes.load(Ordering::SeqCst);
+        let is_empty = input.seen_at(now) < EMPTY && !has_bytes;
         self.input = None;
         if !is_empty {
             self.has_input_ended = true;

@@ -5,7 +5,7 @@ ghost use Rattle.sip_udp.specs.Piping as piping;
 ghost use Rattle.sip_udp.specs.declared.pipe_input.Said.TheVariants as said;
 
 use crate::pipe_input::{MAX_LINE, PipeLine, Said};
-use crate::wrong_word::WrongWord;
+use crate::wrong_word::{Wrong, WrongWord};
 use sip_files::{GivenHeader, with_given};
 use sip_round::Event;
 use sip_text::Series;
@@ -19,17 +19,6 @@ use std::mem;
 struct Line {
     number: u64,
     wrong: Option<Wrong>,
-}
-
-/// What is wrong with a line, taken by itself.
-#[derive(Clone, Copy)]
-enum Wrong {
-    /// A word of a line that isn't a command.
-    Word(WrongWord),
-    /// It isn't a header line that a user may give.
-    Header,
-    /// It is too long.
-    Length,
 }
 
 /// Lines of the pipe that have no part in a command yet.
@@ -77,11 +66,6 @@ impl Waiting {
         if let Said::Comment = said {
             return Ok(());
         }
-        let wrong = match said {
-            Said::NoHeader => Some(Wrong::Header),
-            Said::TooLong => Some(Wrong::Length),
-            _ => wrong.map(Wrong::Word),
-        };
         self.lines.push(Line { number, wrong })?;
         match said {
             Said::Comment => Ok(()),

@@ -4,6 +4,17 @@ use sip_files::{FileKind, read_command_line};
 use sip_text::cut;
 use std::alloc::{AllocError, Global};
 
+/// What is wrong with a line, taken by itself.
+#[derive(Clone, Copy)]
+pub(crate) enum Wrong {
+    /// A word of a line that isn't a command.
+    Word(WrongWord),
+    /// It isn't a header line that a user may give.
+    Header,
+    /// It is too long.
+    Length,
+}
+
 /// The first word of a line with which it can't become a command.
 #[derive(Clone, Copy)]
 pub(crate) struct WrongWord {
@@ -13,70 +24,117 @@ pub(crate) struct WrongWord {
     pub expected: &'static str,
 }
 
-/// A field of a command.
-#[derive(Clone, Copy, PartialEq, Eq)]
-enum Field {
-    CallId,
-    Address,
-    Method,
-    RequestUri,
-    FromUri,
-    ToUri,
-    Support,
-    LocalTag,
-    RemoteTag,
-    RequestId,
-    Status,
-    Reliability,
-    Body,
-    /// It goes on to the end of the line.
-    Reason,
+/// A field of a command: its name, and a text in its form.
+struct Field(&'static str, &'static str);
+
+const CALL_ID: Field = Field("a Call-ID", "c");
+
+const ADDRESS: Field = Field("an address, as 192.0.2.9:5060", "192.0.2.9:5060");
+
+const METHOD: Field = Field("a method", "INFO");
+
+const REQUEST_URI: Field = Field("a Request-URI", "sip:a@b");
+
+const FROM_URI: Field = Field("the URI of From", "sip:a@b");
+
+const TO_URI: Field = Field("the URI of To", "sip:a@b");
+
+const SUPPORT: Field = Field("none, supported or required", "none");
+
+const LOCAL_TAG: Field = Field("the local tag, or -", "-");
+
+const REMOTE_TAG: Field = Field("the remote tag, or -", "-");
+
+const REQUEST_ID: Field = Field("the id of a request, as 0.1", "0.1");
+
+const STATUS: Field = Field("a status up to 999", "200");
+
+const RELIABILITY: Field = Field("plain or reliable", "plain");
+
+const BODY: Field = Field("a body, or -", "-");
+
+const REASON: Field = Field("a reason", "OK");
+
+/// The line of a command: its first word, and the fields behind it.
+struct Form {
+    keyword: &'static [u8],
+    fields: &'static [Field],
+    /// Whether the last field goes on to the end of the line.
+    has_rest: bool,
 }
 
-impl Field {
-    // The name of the field.
-    fn name(self) -> &'static str {
-        match self {
-            Field::CallId => "a Call-ID",
-            Field::Address => "an address, as 192.0.2.9:5060",
-            Field::Method => "a method",
-            Field::RequestUri => "a Request-URI",
-            Field::FromUri => "the URI of From",
-            Field::ToUri => "the URI of To",
-            Field::Support => "none, supported or required",
-            Field::LocalTag => "the local tag, or -",
-            Field::RemoteTag => "the remote tag, or -",
-            Field::RequestId => "the id of a request, as 0.1",
-            Field::Status => "a status up to 999",
-            Field::Reliability => "plain or reliable",
-            Field::Body => "a body, or -",
-            Field::Reason => "a reason",
-        }
-    }
+const WORDS_ALONE: Form = Form {
+    keyword: b"",
+    fields: &[],
+    has_rest: false,
+};
 
-    // A text in the form of the field.
-    fn sample(self) -> &'static str {
-        match self {
-            Field::CallId => "c",
-            Field::Address => "192.0.2.9:5060",
-            Field::Method => "INFO",
-            Field::RequestUri | Field::FromUri | Field::ToUri => "sip:a@b",
-            Field::Support => "none",
-            Field::LocalTag | Field::RemoteTag | Field::Body => "-",
-            Field::RequestId => "0.1",
-            Field::Status => "200",
-            Field::Reliability => "plain",
-            Field::Reason => "OK",
-        }
-    }
+const FORMS: &[Form] = &[
+    Form {
+        keyword: b"invite",
+        fields: &[
+            CALL_ID,
+            ADDRESS,
+            REQUEST_URI,
+            FROM_URI,
+            TO_URI,
+            SUPPORT,
+            BODY,
+        ],
+        ..WORDS_ALONE
+    },
+    Form {
+        keyword: b"plain",
+        fields: &[
+            CALL_ID,
+            ADDRESS,
+            METHOD,
+            REQUEST_URI,
+            FROM_URI,
+            TO_URI,
+            BODY,
+        ],
+        ..WORDS_ALONE
+    },
+    Form {
+        keyword: b"request",
+        fields: &[CALL_ID, LOCAL_TAG, REMOTE_TAG, METHOD, BODY],
+        ..WORDS_ALONE
+    },
+    Form {
+        keyword: b"respond",
+        fields: &[CALL_ID, REQUEST_ID, STATUS, RELIABILITY, BODY, REASON],
+        has_rest: true,
+    },
+    Form {
+        keyword: b"ack",
+        fields: &[CALL_ID, LOCAL_TAG, REMOTE_TAG, BODY],
+        ..WORDS_ALONE
+    },
+    Form {
+        keyword: b"prack",
+        fields: &[CALL_ID, LOCAL_TAG, REMOTE_TAG, BODY],
+        ..WORDS_ALONE
+    },
+    Form {
+        keyword: b"cancel",
+        fields: &[CALL_ID, REQUEST_ID],
+        ..WORDS_ALONE
+    },
+];
 
-    fn missed_at(self, number: u64) -> WrongWord {
-        WrongWord {
-            number,
-            expected: self.name(),
-        }
-    }
-}
+/// The forms of `abandon`, which stands only in a session.
+const ABANDON_REQUEST: &Form = &Form {
+    keyword: b"abandon",
+    fields: &[CALL_ID, REQUEST_ID],
+    ..WORDS_ALONE
+};
+
+const ABANDON_DIALOG: &Form = &Form {
+    keyword: b"abandon",
+    fields: &[CALL_ID, LOCAL_TAG, REMOTE_TAG],
+    ..WORDS_ALONE
+};
 
 /// The words with which a line may begin, with or without header lines.
 const COMMANDS: &str = "invite, plain, request, respond, ack, prack or cancel";
@@ -99,32 +157,34 @@ pub(crate) fn wrong_word(
     line: &[u8],
 ) -> Result<WrongWord, AllocError> {
     let (keyword, mut left) = first_word(line);
-    let fields = match kind {
-        FileKind::Session if keyword == b"abandon".as_slice() => fields_of_abandon(line),
-        FileKind::Session | FileKind::Events => fields_of(keyword),
-    };
-    if fields.is_empty() {
+    let Some(form) = form_of(kind, keyword, line) else {
         return Ok(WrongWord {
             number: 1,
-            expected: commands_of(kind),
+            expected: match kind {
+                FileKind::Events => COMMANDS,
+                FileKind::Session => COMMANDS_OF_A_SESSION,
+            },
         });
-    }
+    };
     let mut text = Vec::from_slice(alloc, keyword)?;
     let mut number = 1u64;
-    for (index, field) in fields.iter().enumerate() {
+    for (index, field) in form.fields.iter().enumerate() {
         number = number.saturating_add(1);
+        let Field(expected, _) = field;
+        let wrong = WrongWord { number, expected };
         let Some(rest) = left else {
-            return Ok(field.missed_at(number));
+            return Ok(wrong);
         };
-        let (word, after) = if *field == Field::Reason {
+        let behind = &form.fields[index + 1..];
+        let (word, after) = if behind.is_empty() && form.has_rest {
             (rest, None)
         } else {
             first_word(rest)
         };
         text.push(b' ')?;
         text.extend_from_slice(word)?;
-        if !goes_on(alloc, kind, &text, &fields[index + 1..])? {
-            return Ok(field.missed_at(number));
+        if !goes_on(alloc, kind, &text, behind)? {
+            return Ok(wrong);
         }
         left = after;
     }
@@ -142,68 +202,18 @@ fn first_word(text: &[u8]) -> (&[u8], Option<&[u8]>) {
     }
 }
 
-fn commands_of(kind: FileKind) -> &'static str {
-    match kind {
-        FileKind::Events => COMMANDS,
-        FileKind::Session => COMMANDS_OF_A_SESSION,
+// The form of the line of the command with this name, if there is such a command. `abandon` names a
+// dialog if it has four words, otherwise a request.
+fn form_of(kind: FileKind, keyword: &[u8], line: &[u8]) -> Option<&'static Form> {
+    if let (FileKind::Session, true) = (kind, keyword == ABANDON_DIALOG.keyword) {
+        let spaces = line.iter().filter(|byte| **byte == b' ').count();
+        return Some(if spaces < WORDS_OF_A_DIALOG {
+            ABANDON_REQUEST
+        } else {
+            ABANDON_DIALOG
+        });
     }
-}
-
-// The fields of `abandon`: those of a dialog if it has four words, otherwise those of a request.
-fn fields_of_abandon(line: &[u8]) -> &'static [Field] {
-    let spaces = line.iter().filter(|byte| **byte == b' ').count();
-    if spaces < WORDS_OF_A_DIALOG {
-        &[Field::CallId, Field::RequestId]
-    } else {
-        &[Field::CallId, Field::LocalTag, Field::RemoteTag]
-    }
-}
-
-// The fields of the command with this name; none if there is no such command.
-fn fields_of(keyword: &[u8]) -> &'static [Field] {
-    match keyword {
-        b"invite" => &[
-            Field::CallId,
-            Field::Address,
-            Field::RequestUri,
-            Field::FromUri,
-            Field::ToUri,
-            Field::Support,
-            Field::Body,
-        ],
-        b"plain" => &[
-            Field::CallId,
-            Field::Address,
-            Field::Method,
-            Field::RequestUri,
-            Field::FromUri,
-            Field::ToUri,
-            Field::Body,
-        ],
-        b"request" => &[
-            Field::CallId,
-            Field::LocalTag,
-            Field::RemoteTag,
-            Field::Method,
-            Field::Body,
-        ],
-        b"respond" => &[
-            Field::CallId,
-            Field::RequestId,
-            Field::Status,
-            Field::Reliability,
-            Field::Body,
-            Field::Reason,
-        ],
-        b"ack" | b"prack" => &[
-            Field::CallId,
-            Field::LocalTag,
-            Field::RemoteTag,
-            Field::Body,
-        ],
-        b"cancel" => &[Field::CallId, Field::RequestId],
-        _ => &[],
-    }
+    FORMS.iter().find(|form| form.keyword == keyword)
 }
 
 // Whether this text, with these fields behind it, is a command.
@@ -214,9 +224,9 @@ fn goes_on(
     fields: &[Field],
 ) -> Result<bool, AllocError> {
     let mut line = Vec::from_slice(alloc, text)?;
-    for field in fields {
+    for Field(_, sample) in fields {
         line.push(b' ')?;
-        line.extend_from_slice(field.sample().as_bytes())?;
+        line.extend_from_slice(sample.as_bytes())?;
     }
     Ok(read_command_line(alloc, kind, &line)?.is_some())
 }

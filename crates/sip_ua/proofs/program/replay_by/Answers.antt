@@ -9,4 +9,4 @@ returns-clause-front g c = λ is.
     whole_front c.args.kind c.args.repairs c.if-not-repairs.false _ _
     (g.R.Read.remaining c.args.input.now) c.in_ok-text.text.items c.whole-front.result.now
     (c.whole-front.ensures ∙ ap (whole c.args.kind) c.as_slice.ensures.value)
-    c.in_ok-text.ensures.all (c.replay_all-2.ensures.front is)
+    c.in_ok-text.ensures.all (c.replay-2.ensures.front is)

@@ -8,7 +8,7 @@ use Rattle.sip_ua.proofs.program.replay_input.Goals as goal
 pub returns-clause-no_file : goal.returns-clause-no_file
 returns-clause-no_file g c =
     status_1 c.args.kind c.args.repairs (g.R.Read.remaining c.args.input.now)
-    c.replay_by-end.result c.finish_file.result c.finish_file.ensures
+    c.replay_by-end.result c.finish.result c.finish.ensures
     (subst (λ reader. IfErr c.replay_by-end.result
     (λ fault. IfSome (g.R.Read.remaining reader.now)
     (TellsRepair c.args.kind c.args.repairs fault)))
@@ -17,7 +17,7 @@ returns-clause-no_file g c =
 pub returns-clause-refused_round : goal.returns-clause-refused_round
 returns-clause-refused_round g c =
     status_3 c.args.kind c.args.repairs (g.R.Read.remaining c.args.input.now)
-    c.replay_by-end.result c.finish_file.result c.finish_file.ensures
+    c.replay_by-end.result c.finish.result c.finish.ensures
     (subst (λ reader. IfErr c.replay_by-end.result
     (λ fault. IfSome (g.R.Read.remaining reader.now)
     (TellsRepair c.args.kind c.args.repairs fault)))
@@ -26,7 +26,7 @@ returns-clause-refused_round g c =
 pub returns-clause-only : goal.returns-clause-only
 returns-clause-only g c =
     never_status_1 c.args.kind c.args.repairs (g.R.Read.remaining c.args.input.now)
-    c.replay_by-end.result c.finish_file.result c.finish_file.ensures
+    c.replay_by-end.result c.finish.result c.finish.ensures
     (subst (λ reader. IfErr c.replay_by-end.result
     (λ fault. IfSome (g.R.Read.remaining reader.now)
     (TellsRepair c.args.kind c.args.repairs fault)))

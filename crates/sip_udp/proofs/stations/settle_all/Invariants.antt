@@ -5,8 +5,8 @@ use Rattle.sip_udp.specs.Stations.{EndsStation}
 use Rattle.sip_udp.proofs.stations.settle_all.Given as goal
 
 abbrev pub invariant-loop-other : goal.invariant-loop-other
-invariant-loop-other g l =
+invariant-loop-other l =
     AllZip EndsStation (l.own ∷ map (λ other. other.station.desk) l.others.items) l.ends.items
 
 abbrev pub decreases-loop-other : goal.decreases-loop-other
-decreases-loop-other g l = length l.others.items
+decreases-loop-other l = length l.others.items
