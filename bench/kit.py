@@ -17,6 +17,12 @@ def load():
     return module, kit
 
 
+def crates_of(module, top):
+    """The crates of the repository at `top`, as the gate proves them."""
+    module.rtlib.Crate = module.Crate
+    return module.rtlib.crates_below(top)
+
+
 def newest(folder):
     """The time of the newest change of a crate's own files."""
     paths = [f"{at}/{name}" for part in ("src", "specs", "proofs")
@@ -40,7 +46,7 @@ def build_over_gate(top, name, out):
     module.Crate.cuts_libraries = True
     module.rtlib.guarded()
     module.Crate.allowed = module.handles_of(top)
-    crate = next(it for it in module.crates_of(top) if it.name == name)
+    crate = next(it for it in crates_of(module, top) if it.name == name)
     if not all(stands(it) for it in crate.below()):
         return False
     print(f"{name}: over the libraries that rt ci proved here", file=sys.stderr)

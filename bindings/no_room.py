@@ -75,6 +75,7 @@ async def of_an_endpoint(library: str, port: int) -> bool:
             failed.append(output.call_id)
 
     endpoint = await open_endpoint(library, ("127.0.0.1", port), told)
+    endpoint.largest = len(LONG)
     answered = await asyncio.to_thread(is_answered, port, port + 1)
     endpoint.close()
     return answered and "c1" in failed

@@ -46,6 +46,7 @@ struct Header {
 };
 
 /// The fields of commands, as sip_ua.h has them.
+// generated from bindings/commands.tsv: begin structs
 struct Invite {
     std::string_view call_id;
     Address address;
@@ -88,7 +89,7 @@ struct Respond {
     std::vector<Header> headers = {};
 };
 
-/// An ACK or a PRACK.
+/// Of ack and prack.
 struct Body {
     std::string_view call_id;
     std::string_view local_tag;
@@ -96,6 +97,7 @@ struct Body {
     std::string_view body = {};
     std::vector<Header> headers = {};
 };
+// generated from bindings/commands.tsv: end
 
 /// An output of a round by its fields; `numbers` has those that are numbers.
 struct TypedOutput {
@@ -211,71 +213,75 @@ public:
         check(sip_ua_event_lines(&agent, lines.empty() ? "" : lines.data(), lines.size()));
     }
 
-    /// Starts a call. Each command returns the id that the notices about it have.
+    // Each command returns the id that the notices about it have.
+    // generated from bindings/commands.tsv: begin methods
+    /// Starts a call: sends an initial INVITE to an address.
     sip_ua_id invite(const Invite &given) {
         const auto headers = headers_of(given.headers);
-        const sip_ua_invite_fields fields = {
-            bytes(given.call_id),  given.address,         bytes(given.request_uri),
-            bytes(given.from),     bytes(given.to),       given.supports_100rel,
-            given.requires_100rel, bytes(given.body),     headers.data(),
-            headers.size()};
-        return asked(sip_ua_invite, fields);
+        return asked(sip_ua_invite, sip_ua_invite_fields{bytes(given.call_id), given.address,
+            bytes(given.request_uri), bytes(given.from), bytes(given.to), given.supports_100rel,
+            given.requires_100rel, bytes(given.body), headers.data(), headers.size()});
     }
 
-    /// Sends a request outside of any dialog.
+    /// Sends a request outside of any dialog to an address.
     sip_ua_id plain(const Plain &given) {
         const auto headers = headers_of(given.headers);
-        const sip_ua_plain_fields fields = {
-            bytes(given.call_id),     given.address,     bytes(given.method),
-            bytes(given.request_uri), bytes(given.from), bytes(given.to),
-            bytes(given.body),        headers.data(),    headers.size()};
-        return asked(sip_ua_plain, fields);
+        return asked(sip_ua_plain, sip_ua_plain_fields{bytes(given.call_id), given.address,
+            bytes(given.method), bytes(given.request_uri), bytes(given.from), bytes(given.to),
+            bytes(given.body), headers.data(), headers.size()});
     }
 
-    /// Sends a request in a dialog.
+    /// Sends a request in a dialog, such as BYE or a re-INVITE.
     sip_ua_id request(const Request &given) {
         const auto headers = headers_of(given.headers);
-        const sip_ua_request_fields fields = {
-            bytes(given.call_id), bytes(given.local_tag), bytes(given.remote_tag),
-            bytes(given.method),  bytes(given.body),      headers.data(),
-            headers.size()};
-        return asked(sip_ua_request, fields);
+        return asked(sip_ua_request, sip_ua_request_fields{bytes(given.call_id),
+            bytes(given.local_tag), bytes(given.remote_tag), bytes(given.method), bytes(given.body),
+            headers.data(), headers.size()});
     }
 
-    /// Sends a response to a request.
+    /// Answers the request with this id, that of its notice; if an INVITE requires 100rel, each
+    /// response of 101 to 199 is reliable.
     sip_ua_id respond(const Respond &given) {
         const auto headers = headers_of(given.headers);
-        const sip_ua_respond_fields fields = {
-            bytes(given.call_id), given.id,          given.status,   given.is_reliable,
-            bytes(given.reason),  bytes(given.body), headers.data(), headers.size()};
-        return asked(sip_ua_respond, fields);
+        return asked(sip_ua_respond, sip_ua_respond_fields{bytes(given.call_id), given.id,
+            given.status, given.is_reliable, bytes(given.reason), bytes(given.body), headers.data(),
+            headers.size()});
     }
 
-    /// Sends the ACK of the dialog's oldest 2xx that still needs one.
-    sip_ua_id ack(const Body &given) { return body(sip_ua_ack, given); }
+    /// Sends the ACK of the dialog's oldest 2xx that needs one; most go out by themselves
+    /// (docs/EMBEDDING.md).
+    sip_ua_id ack(const Body &given) {
+        const auto headers = headers_of(given.headers);
+        return asked(sip_ua_ack, sip_ua_body_fields{bytes(given.call_id), bytes(given.local_tag),
+            bytes(given.remote_tag), bytes(given.body), headers.data(), headers.size()});
+    }
 
-    /// Sends the PRACK of the dialog's oldest provisional response that still needs one.
-    sip_ua_id prack(const Body &given) { return body(sip_ua_prack, given); }
+    /// Sends the PRACK of the dialog's oldest reliable provisional response that needs one; most go
+    /// out by themselves (docs/EMBEDDING.md).
+    sip_ua_id prack(const Body &given) {
+        const auto headers = headers_of(given.headers);
+        return asked(sip_ua_prack, sip_ua_body_fields{bytes(given.call_id), bytes(given.local_tag),
+            bytes(given.remote_tag), bytes(given.body), headers.data(), headers.size()});
+    }
 
-    /// Cancels an INVITE that you sent, by its id.
+    /// Cancels the INVITE with this id, that of its command.
     sip_ua_id cancel(std::string_view call_id, sip_ua_id id) {
-        const sip_ua_cancel_fields fields = {bytes(call_id), id};
-        return asked(sip_ua_cancel, fields);
+        return asked(sip_ua_cancel, sip_ua_cancel_fields{bytes(call_id), id});
     }
 
-    /// Gives up a request that you sent, by its id: nothing more is sent or told of it.
+    /// Gives up the request with this id, that of its command: it is no longer held, its early
+    /// dialogs end, and nothing more is sent or told of it.
     sip_ua_id abandon(std::string_view call_id, sip_ua_id id) {
-        const sip_ua_abandon_request_fields fields = {bytes(call_id), id};
-        return asked(sip_ua_abandon_request, fields);
+        return asked(sip_ua_abandon_request, sip_ua_abandon_request_fields{bytes(call_id), id});
     }
 
-    /// Gives up a dialog, by its tags: it ends, and nothing is sent.
+    /// Gives up the dialog with these tags: it ends, and nothing is sent.
     sip_ua_id abandon(std::string_view call_id, std::string_view local_tag,
                       std::string_view remote_tag) {
-        const sip_ua_abandon_dialog_fields fields = {bytes(call_id), bytes(local_tag),
-                                                     bytes(remote_tag)};
-        return asked(sip_ua_abandon_dialog, fields);
+        return asked(sip_ua_abandon_dialog, sip_ua_abandon_dialog_fields{bytes(call_id),
+            bytes(local_tag), bytes(remote_tag)});
     }
+    // generated from bindings/commands.tsv: end
 
     /// Counts what is held, and what waits.
     sip_ua_counts stats() {
@@ -487,14 +493,6 @@ private:
         if (status != SIP_UA_OK)
             throw Error(status, told.bad_field);
         return told.id;
-    }
-
-    template <class Call> sip_ua_id body(Call call, const Body &given) {
-        const auto headers = headers_of(given.headers);
-        const sip_ua_body_fields fields = {bytes(given.call_id),    bytes(given.local_tag),
-                                           bytes(given.remote_tag), bytes(given.body),
-                                           headers.data(),          headers.size()};
-        return asked(call, fields);
     }
 
     // The text that a call writes, with the length that it tells. The buffer grows for it.

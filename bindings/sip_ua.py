@@ -19,8 +19,8 @@ returns datagrams to send, and notices:
         .. unless an event waits, wait for a datagram, the user, or agent.next_due()
         agent.datagram(source, data)
 
-The commands are Invite, Plain, Request, Response, Ack, Prack, Cancel, AbandonRequest and
-AbandonDialog. A round gives outputs: a Send, a Drop, or a Notice of one of eleven types.
+A command is an Invite, a Request or another type of Command. A round gives outputs: a Send, a Drop,
+or a Notice of one of eleven types.
 sip_ua_udp.py runs this loop on asyncio, and sip_ua_calls.py has calls as objects over that.
 
 Texts are str, in UTF-8 on the wire. Bytes that aren't UTF-8 pass through unchanged
@@ -37,8 +37,11 @@ from dataclasses import dataclass
 from typing import Any, ClassVar, List, NamedTuple, Optional, Sequence, Tuple, Union
 
 __all__ = (
-    "Agent LARGEST_DATAGRAM Error Status Field Id "
-    "Command Invite Plain Request Response Ack Prack Cancel AbandonRequest AbandonDialog "
+    "Agent LARGEST_DATAGRAM SipUaError BadValueError AddressError HeaderTypeError Error Status "
+    "Field Id Command "
+    # generated from bindings/commands.tsv: begin names
+    "Invite Plain Request Response Ack Prack Cancel AbandonRequest AbandonDialog "
+    # generated from bindings/commands.tsv: end
     "Output Send Line Drop DropReason Notice RequestNotice ResponseNotice AckNotice PrackNotice "
     "TimeoutNotice FailedNotice NoAckNotice NoPrackNotice CancelNotice EndedNotice RefusedNotice "
     "Refusal Stats StartLine RequestTraits HeaderAddress Datagram "
@@ -86,6 +89,7 @@ class Status(_Number):
 class Field(_Number):
     """The bad field of a command; sip_ua.h says when a field is bad."""
 
+    # generated from bindings/commands.tsv: begin fields
     CALL_ID = 1
     METHOD = 2
     REQUEST_URI = 3
@@ -96,11 +100,13 @@ class Field(_Number):
     STATUS = 8
     REASON = 9
     HEADERS = 10
+    # generated from bindings/commands.tsv: end
 
 
 class Refusal(_Number):
     """Why a command was refused."""
 
+    # generated from bindings/commands.tsv: begin refusals
     CALL_IN_USE = 1
     NO_SUCH_CALL = 2
     NO_SUCH_DIALOG = 3
@@ -115,6 +121,7 @@ class Refusal(_Number):
     STRICT_ROUTE = 12
     DIALOG_ENDED = 13
     BAD_METHOD = 14
+    # generated from bindings/commands.tsv: end
 
 
 class DropReason(_Number):
@@ -135,7 +142,24 @@ class DropReason(_Number):
     NO_MEMORY = 13
 
 
-class Error(Exception):
+class SipUaError(Exception):
+    """The base of all errors that these modules raise. Those of Python itself, such as the OSError
+    of a socket, stay what they are."""
+
+
+class BadValueError(SipUaError, ValueError):
+    """A value that can't be, such as a port above 65,535."""
+
+
+class AddressError(BadValueError, ipaddress.AddressValueError):
+    """An address that isn't an IPv4 address and a port, or a URI that gives none for UDP."""
+
+
+class HeaderTypeError(SipUaError, TypeError):
+    """The value of a header, which the message names, isn't a str."""
+
+
+class Error(SipUaError):
     """A call failed: with `status`, and after BAD_FIELD with the bad `field`."""
 
     def __init__(self, status: int, field: int = 0):
@@ -159,8 +183,12 @@ class Id(NamedTuple):
 
 @dataclass(frozen=True)
 class Command:
-    """What `Agent.ask` takes. Headers are pairs of a name and a value. A body has the type
-    application/sdp, unless a header Content-Type says another one."""
+    # generated from bindings/commands.tsv: begin about
+    """What `Agent.ask` takes. The URIs have no tags and display names. The tags are those of the
+    notices; an absent tag is empty. The status is 101 to 699. `requires_100rel` overrides
+    `supports_100rel`. A body may be empty. It is application/sdp, unless a header Content-Type says
+    otherwise. Headers are pairs of a name and a value."""
+    # generated from bindings/commands.tsv: end
 
     call_id: str
     _name: ClassVar[str] = ""
@@ -173,9 +201,11 @@ class Command:
         raise NotImplementedError
 
 
+# generated from bindings/commands.tsv: begin commands
 @dataclass(frozen=True)
 class Invite(Command):
-    """Starts a call: sends an initial INVITE to an address. The URIs have no tags."""
+    """Starts a call: sends an initial INVITE to an address. See RFC 3261, section 13.2.1. Refusals:
+    CALL_IN_USE."""
 
     address: Address
     request_uri: str
@@ -188,14 +218,14 @@ class Invite(Command):
     _name: ClassVar[str] = "invite"
 
     def _words(self) -> Tuple[object, ...]:
-        uris = (self.request_uri, self.from_uri, self.to_uri)
-        hundred = (self.supports_100rel, self.requires_100rel)
-        return (self.call_id, _address(self.address), *uris, *hundred, self.body)
+        return (self.call_id, _address(self.address), self.request_uri, self.from_uri, self.to_uri,
+                self.supports_100rel, self.requires_100rel, self.body)
 
 
 @dataclass(frozen=True)
 class Plain(Command):
-    """Sends a request outside of any dialog to an address, such as REGISTER or OPTIONS."""
+    """Sends a request outside of any dialog to an address. REGISTER and OPTIONS are such. See RFC
+    3261, section 8.1.1. Refusals: CALL_IN_USE, BAD_METHOD."""
 
     address: Address
     method: str
@@ -207,13 +237,16 @@ class Plain(Command):
     _name: ClassVar[str] = "plain"
 
     def _words(self) -> Tuple[object, ...]:
-        uris = (self.request_uri, self.from_uri, self.to_uri)
-        return (self.call_id, _address(self.address), self.method, *uris, self.body)
+        return (self.call_id, _address(self.address), self.method, self.request_uri, self.from_uri,
+                self.to_uri, self.body)
 
 
 @dataclass(frozen=True)
 class Request(Command):
-    """Sends a request in a dialog, such as BYE or a re-INVITE. Notices have the dialog's tags."""
+    """Sends a request in a dialog, such as BYE or a re-INVITE. To offer 100rel in a re-INVITE, give
+    the header Supported or Require with 100rel: its reliable provisional responses get their PRACKs
+    as those of a first INVITE. See RFC 3261, section 12.2.1.1. Refusals: NO_SUCH_CALL,
+    NO_SUCH_DIALOG, BAD_METHOD, STRICT_ROUTE, SEQUENCE_USED_UP."""
 
     local_tag: str
     remote_tag: str
@@ -228,7 +261,11 @@ class Request(Command):
 
 @dataclass(frozen=True)
 class Response(Command):
-    """Answers the request with this id, that of its RequestNotice. The status is 101 to 699."""
+    """Answers the request with this id, that of its notice; if an INVITE requires 100rel, each
+    response of 101 to 199 is reliable. What is refused as RELIABLE_PENDING can be given again after
+    the notice PRACK or NO_PRACK. A response of 300 to 699 is taken at any time. See RFC 3261,
+    section 8.2.6; RFC 3262, section 3. Refusals: NO_SUCH_CALL, NO_SUCH_REQUEST, ALREADY_FINAL,
+    NOT_SUPPORTED, DIALOG_ENDED, RELIABLE_PENDING, SEQUENCE_USED_UP."""
 
     id: Id
     status: int
@@ -239,13 +276,15 @@ class Response(Command):
     _name: ClassVar[str] = "respond"
 
     def _words(self) -> Tuple[object, ...]:
-        status = _number(self.status, 16)
-        return (self.call_id, *_id(self.id), status, self.is_reliable, self.reason, self.body)
+        return (self.call_id, *_id(self.id), _number(self.status, 16), self.is_reliable,
+                self.reason, self.body)
 
 
 @dataclass(frozen=True)
 class Ack(Command):
-    """Sends the ACK of the dialog's oldest 2xx that still needs one. Most go out by themselves."""
+    """Sends the ACK of the dialog's oldest 2xx that needs one; most go out by themselves
+    (docs/EMBEDDING.md). See RFC 3261, section 13.2.2.4. Refusals: NO_SUCH_CALL, NO_SUCH_DIALOG,
+    NOTHING_TO_ACK, STRICT_ROUTE."""
 
     local_tag: str
     remote_tag: str
@@ -259,8 +298,9 @@ class Ack(Command):
 
 @dataclass(frozen=True)
 class Prack(Command):
-    """Sends the PRACK of the dialog's oldest reliable provisional response that still needs one.
-    Most go out by themselves."""
+    """Sends the PRACK of the dialog's oldest reliable provisional response that needs one; most go
+    out by themselves (docs/EMBEDDING.md). See RFC 3262, section 4. Refusals: NO_SUCH_CALL,
+    NO_SUCH_DIALOG, NOTHING_TO_PRACK, STRICT_ROUTE, SEQUENCE_USED_UP."""
 
     local_tag: str
     remote_tag: str
@@ -274,7 +314,8 @@ class Prack(Command):
 
 @dataclass(frozen=True)
 class Cancel(Command):
-    """Cancels an INVITE that you sent. The id is the one that `ask` returned for it."""
+    """Cancels the INVITE with this id, that of its command. The dialog of a re-INVITE stays. See
+    RFC 3261, section 9.1. Refusals: NO_SUCH_CALL, NO_SUCH_REQUEST, ALREADY_FINAL."""
 
     id: Id
     headers: ClassVar[Headers] = ()
@@ -286,9 +327,9 @@ class Cancel(Command):
 
 @dataclass(frozen=True)
 class AbandonRequest(Command):
-    """Gives up a request that you sent, such as an INVITE whose peer is dead: it is no longer held,
-    its early dialogs end, and nothing more is sent or told of it. The id is the one that `ask`
-    returned for it."""
+    """Gives up the request with this id, that of its command: it is no longer held, its early
+    dialogs end, and nothing more is sent or told of it. An INVITE whose peer is dead needs that.
+    For each early dialog the notice ENDED follows. Refusals: NO_SUCH_CALL, NO_SUCH_REQUEST."""
 
     id: Id
     headers: ClassVar[Headers] = ()
@@ -300,7 +341,8 @@ class AbandonRequest(Command):
 
 @dataclass(frozen=True)
 class AbandonDialog(Command):
-    """Gives up the dialog with these tags: it ends, and nothing is sent."""
+    """Gives up the dialog with these tags: it ends, and nothing is sent. The notice ENDED follows.
+    Refusals: NO_SUCH_CALL, NO_SUCH_DIALOG."""
 
     local_tag: str
     remote_tag: str
@@ -309,6 +351,7 @@ class AbandonDialog(Command):
 
     def _words(self) -> Tuple[object, ...]:
         return (self.call_id, self.local_tag, self.remote_tag)
+# generated from bindings/commands.tsv: end
 
 
 # ---- outputs
@@ -681,18 +724,22 @@ _text = (ctypes.c_char_p, _size)
 _room = (ctypes.c_void_p, _size)
 _event = (ctypes.c_uint64, _place)
 _asked = (_at(_Asked),)
-_hundred = (ctypes.c_bool, ctypes.c_bool)
+_peer = (_at(_Address),)
+_flag = (ctypes.c_bool,)
+_status = (ctypes.c_uint16,)
 _FUNCTIONS = {
     "header": _text * 2,
-    "invite": _text + (_at(_Address),) + _text * 3 + _hundred + _text + _asked,
-    "plain": _text + (_at(_Address),) + _text * 5 + _asked,
+    # generated from bindings/commands.tsv: begin functions
+    "invite": _text + _peer + _text * 3 + _flag * 2 + _text + _asked,
+    "plain": _text + _peer + _text * 5 + _asked,
     "request": _text * 5 + _asked,
-    "respond": _text + _event + (ctypes.c_uint16, ctypes.c_bool) + _text * 2 + _asked,
+    "respond": _text + _event + _status + _flag + _text * 2 + _asked,
     "ack": _text * 4 + _asked,
     "prack": _text * 4 + _asked,
     "cancel": _text + _event + _asked,
     "abandon_request": _text + _event + _asked,
     "abandon_dialog": _text * 3 + _asked,
+    # generated from bindings/commands.tsv: end
     "next": (_at(_TypedOutput),) + _room,
     "next_output": (_at(_LineOutput),) + _room,
     "stats": (_at(_Stats),),
@@ -764,8 +811,12 @@ def _unquoted(text: str) -> str:
 
 
 def _address(address: Address) -> _Address:
-    ip, port = address
-    return _Address((ctypes.c_uint8 * 4)(*ipaddress.IPv4Address(ip).packed), _number(port, 16))
+    try:
+        ip, port = address
+        packed = ipaddress.IPv4Address(ip).packed
+    except ValueError:
+        raise AddressError(f"no IPv4 address and port: {address!r}") from None
+    return _Address((ctypes.c_uint8 * 4)(*packed), _number(port, 16))
 
 
 def _long_name(name: str) -> str:
@@ -785,8 +836,14 @@ def _id(event: Id) -> Tuple[int, int]:
 
 def _number(number: int, bits: int) -> int:
     if not 0 <= number < 1 << bits:
-        raise ValueError(f"{number} is no number of {bits} bits")
+        raise BadValueError(f"{number} is no number of {bits} bits")
     return number
+
+
+def _header(name: str, value: str) -> Tuple[bytes, bytes]:
+    if not isinstance(name, str) or not isinstance(value, str):
+        raise HeaderTypeError(f"the header {name} isn't a str: {value!r}")
+    return _encoded(name), _encoded(value)
 
 
 def _encoded(text: str) -> bytes:
@@ -845,7 +902,7 @@ class Agent:
         self, library: str, local: Address, seed: bytes, first: int = 0, shards: int = 1
     ):
         if len(seed) != 32:
-            raise ValueError("the seed has 32 bytes")
+            raise BadValueError("the seed has 32 bytes")
         self._agent = _Agent()
         self._library = _functions(library)
         self._buffer = ctypes.create_string_buffer(65536)
@@ -882,10 +939,12 @@ class Agent:
 
     def ask(self, command: Command) -> Id:
         """Adds a command to the next round. Notices about it have the id that this returns. A bad
-        field raises Error BAD_FIELD, and there is no command. If the agent refuses it later, such
-        as for a dialog that isn't held, a RefusedNotice says so."""
+        field raises Error BAD_FIELD, a header that isn't a str HeaderTypeError, and there is no
+        command. If the agent refuses it later, such as for a dialog that isn't held, a
+        RefusedNotice says so."""
         words, asked = command._words(), _Asked()
-        for name, value in command._headers():
+        # A header that was passed goes with the next command, so all are looked at before.
+        for name, value in [_header(*header) for header in command._headers()]:
             try:
                 self._call("header", name, value)
             except Error as error:

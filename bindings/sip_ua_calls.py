@@ -13,15 +13,17 @@
 
 What goes out by itself: ACKs, a BYE to each further branch of a fork that answers, the answer to
 each challenge by Digest, the 200 of a BYE. When the `async with` ends, `close` ends all calls. What
-takes headers or a body raises sip_ua.Error if a field is bad; then nothing is sent.
+takes headers or a body raises a sip_ua.SipUaError if a field is bad; then nothing is sent.
 sip_ua_registration.py registers a user agent. Use everything from the thread of the event loop.
 """
 
 import asyncio
+import inspect
 import ipaddress
 import random
 import re
 import socket
+import weakref
 from collections import deque
 from dataclasses import dataclass
 from functools import partial
@@ -29,6 +31,7 @@ from secrets import token_hex
 from typing import (
     Any,
     AsyncIterator,
+    Awaitable,
     Callable,
     Deque,
     Dict,
@@ -47,6 +50,8 @@ from sip_ua import (
     Ack,
     AckNotice,
     Address,
+    AddressError,
+    BadValueError,
     Cancel,
     CancelNotice,
     Command,
@@ -67,6 +72,7 @@ from sip_ua import (
     RequestNotice,
     Response,
     ResponseNotice,
+    SipUaError,
     TimeoutNotice,
 )
 from sip_ua_digest import CHALLENGES, Authenticator
@@ -74,8 +80,9 @@ from sip_ua_journal import FileJournal, Held, HeldDialog, held_by
 from sip_ua_udp import MOST_TRANSACTIONS, Endpoint, open_endpoint
 
 __all__ = (
-    "UserAgent open_user_agent Call OutgoingCall IncomingCall CallFailed FinalResponse "
-    "Event Progress Answered IncomingRequest Ended Stream address_of uri_of"
+    "UserAgent open_user_agent Call OutgoingCall IncomingCall CallFailed MethodError "
+    "SecondReaderError FinalResponse NO_ACK Event Progress Answered IncomingRequest Ended Stream "
+    "OnRequest address_of uri_of"
 ).split()
 
 SIP_PORT = 5060
@@ -91,16 +98,29 @@ RETRY_AFTER_S = 5
 MOST_RETRY_AFTER_S = 10
 # How many events of a call wait for its iterator; those that come then count as unread.
 MOST_UNREAD = 256
+# How long a request of the peer waits for an iterator of its call: T1, then peers send it again.
+UNREAD_S = 0.5
 # How often a request answers challenges.
 MOST_ANSWERS = 3
 ALLOW = ("Allow", "INVITE, ACK, CANCEL, OPTIONS, BYE, PRACK")
+SERVER_ERROR = (500, "Server Internal Error")
 # How many calls of another process are ended at once, and the pause until the next ones.
 MOST_AT_ONCE = 20
 PAUSE_S = 0.01
 # The responses to requests that another process left.
 _LEFT = {"INVITE": (480, "Temporarily Unavailable"), "BYE": (200, "OK")}
 
+# What sends the methods that `UserAgent.request` doesn't.
+_SENT_BY = {
+    "INVITE": "UserAgent.call",
+    "ACK": "Call.acknowledge",
+    "PRACK": "the agent",
+    "CANCEL": "Call.hang_up",
+    "BYE": "Call.hang_up",
+}
+
 _HOST = re.compile(r"sip:(?:[^@]*@)?([^\[\]:;?>\s]+)(?::(\d{1,5}))?(?:[;?>]|\Z)", re.IGNORECASE)
+_TRANSPORT = re.compile(r";transport=([^;?>\s]*)", re.IGNORECASE)
 MOST_PORT = 65535
 _QUOTED = re.compile(r'"(?:[^"\\]|\\.)*"')
 _Handler = Callable[[Notice], None]
@@ -124,12 +144,24 @@ class FinalResponse(NamedTuple):
         return 200 <= self.status < 300
 
 
-class CallFailed(Exception):
+# Why a call failed whose 200 was sent, while its ACK never came.
+NO_ACK = FinalResponse(408, "No ACK")
+
+
+class CallFailed(SipUaError):
     """A call wasn't answered, for the reason in `response`."""
 
     def __init__(self, response: FinalResponse):
         self.response = response
         super().__init__(f"{response.status} {response.reason}")
+
+
+class MethodError(BadValueError):
+    """This `request` doesn't send the method. The message says what does."""
+
+
+class SecondReaderError(SipUaError, RuntimeError):
+    """Another coroutine iterates already. It goes on."""
 
 
 # ---- the events of a call
@@ -218,63 +250,148 @@ class IncomingRequest:
 
 
 Event = Union[Progress, Answered, IncomingRequest, Ended]
+# Answers a request outside of calls: now, later, or as a coroutine.
+OnRequest = Callable[[IncomingRequest], Optional[Awaitable[object]]]
+
+
+class _Reader(AsyncIterator[_Item]):
+    """An iterator of a stream."""
+
+    def __init__(self, stream: "Stream[_Item]"):
+        self._stream = stream
+        self.is_over = False
+
+    async def __anext__(self) -> _Item:
+        return await self._stream.next(self)
+
+    async def aclose(self) -> None:
+        """Ends it, so that another one can begin."""
+        self._stream.leave(self)
 
 
 class Stream(Generic[_Item]):
-    """What one iterator reads, the last one that began. `refuse` is called with each item that it
-    doesn't read: while nobody iterates, when MOST_UNREAD items wait, and with those that wait when
-    it ends."""
+    """What one iterator reads at a time: a second one raises SecondReaderError, and the first goes
+    on. While nobody iterates, the items that `is_kept` names wait, and others for `patience_s`:
+    then `refuse` is called with them. It is called at once with what comes while MOST_UNREAD wait.
+    """
 
-    def __init__(self, refuse: Callable[[_Item], None]) -> None:
+    def __init__(
+        self,
+        refuse: Callable[[_Item], None],
+        is_kept: Callable[[_Item], bool] = lambda _: False,
+        patience_s: float = 0.0,
+    ) -> None:
         self._refuse = refuse
-        self._queue: "Optional[asyncio.Queue[Optional[_Item]]]" = None
+        self._is_kept = is_kept
+        self._patience_s = patience_s
+        self._items: Deque[_Item] = deque()
         self._is_ended = False
+        self._last: Optional[_Item] = None
+        # A weak reference: an iterator that nobody holds any more has ended.
+        self._reader: Callable[[], Optional[_Reader[_Item]]] = nobody
+        # What the iterator awaits.
+        self._arrival: "Optional[asyncio.Future[None]]" = None
 
     def put(self, item: _Item) -> None:
-        """Gives an item to the iterator, or refuses it."""
-        if self._queue is None or self._queue.qsize() >= MOST_UNREAD:
+        """Gives an item to the iterator, keeps it for the next one, or refuses it."""
+        if self._is_ended or len(self._items) >= MOST_UNREAD:
             self._refuse(item)
         else:
-            self._queue.put_nowait(item)
+            self._items.append(item)
+            self._wake()
+            self._expect_reader()
 
     def end(self, last: Optional[_Item] = None) -> None:
-        """Ends the iterator, after a last item."""
-        self._is_ended = True
-        if self._queue is not None:
-            if last is not None:
-                self._queue.put_nowait(last)
-            self._queue.put_nowait(None)
+        """Ends the iterator, after a last item, which later ones get alone."""
+        self._is_ended, self._last = True, last
+        self._wake()
 
-    async def read(self) -> AsyncIterator[_Item]:
-        """The items from now on. The iterator that began before ends."""
-        if self._is_ended:
-            return
-        if self._queue is not None:
-            self._queue.put_nowait(None)
-        queue: "asyncio.Queue[Optional[_Item]]" = asyncio.Queue()
-        self._queue = queue
+    def read(self) -> AsyncIterator[_Item]:
+        """The items that were kept, and those from now on."""
+        return _Reader(self)
+
+    async def next(self, reader: _Reader[_Item]) -> _Item:
+        """For `_Reader`: the next item."""
+        if reader.is_over:
+            raise StopAsyncIteration
+        if self._arrival is not None or self._reader() not in (None, reader):
+            raise SecondReaderError("another coroutine iterates already")
+        if self._reader() is None:
+            loop = asyncio.get_running_loop()
+            self._reader = weakref.ref(reader, lambda _: self._lose_reader(loop))
+        while not (self._items or self._is_ended or reader.is_over):
+            await self._wait()
+        if reader.is_over:
+            raise StopAsyncIteration
+        if self._items:
+            return self._items.popleft()
+        self.leave(reader)
+        if self._last is None:
+            raise StopAsyncIteration
+        return self._last
+
+    async def _wait(self) -> None:
+        """Waits for an item. Who is cancelled meanwhile no longer reads: others may hold its
+        iterator on, such as a traceback."""
+        self._arrival = asyncio.get_running_loop().create_future()
         try:
-            while True:
-                item = await queue.get()
-                if item is None:
-                    return
-                yield item
+            await self._arrival
+        except asyncio.CancelledError:
+            self._reader = nobody
+            self._expect_reader()
+            raise
         finally:
-            if self._queue is queue:
-                self._queue = None
-            while not queue.empty():
-                unread = queue.get_nowait()
-                if unread is not None:
-                    self._refuse(unread)
+            self._arrival = None
+
+    def _wake(self) -> None:
+        if self._arrival is not None and not self._arrival.done():
+            self._arrival.set_result(None)
+
+    def leave(self, reader: _Reader[_Item]) -> None:
+        """For `_Reader`: it has ended."""
+        reader.is_over = True
+        if self._reader() is reader:
+            self._reader = nobody
+            self._wake()
+            self._expect_reader()
+
+    def _lose_reader(self, loop: asyncio.AbstractEventLoop) -> None:
+        """Nobody holds the iterator any more. That can be noticed within anything, so that nothing
+        is refused here."""
+        if not loop.is_closed():
+            loop.call_soon_threadsafe(self._expect_reader)
+
+    def _expect_reader(self) -> None:
+        """Has what isn't kept refused, unless somebody iterates, or does so in time."""
+        if self._reader() is None and self._patience_s > 0:
+            asyncio.get_running_loop().call_later(self._patience_s, self._refuse_unread)
+        else:
+            self._refuse_unread()
+
+    def _refuse_unread(self) -> None:
+        """Refuses what isn't kept, unless somebody iterates."""
+        if self._reader() is not None:
+            return
+        items, self._items = self._items, deque()
+        for item in items:
+            if self._is_kept(item):
+                self._items.append(item)
+            else:
+                self._refuse(item)
+
+
+def nobody() -> None:
+    """The reader of a stream that nobody reads."""
 
 
 # ---- calls
 
 
 class Call:
-    """A call, incoming or outgoing. `async for` gives its events from then on, Ended last; of a
-    call that has ended, Ended alone. While nobody reads them, requests of the peer are refused. Any
-    number of tasks may await `answered` and `ended` beside one that iterates; to cancel such a wait
+    """A call, incoming or outgoing. `async for` gives its events, Ended last. They are kept from
+    the call's start until somebody reads them, but requests of the peer are refused after half a
+    second in which nobody reads. One coroutine iterates at a time: a second one gets
+    SecondReaderError. Any number may await `answered` and `ended` beside it; to cancel such a wait
     leaves the call as it is.
 
     `call_id` is its Call-ID, a str. That of an outgoing call changes when its INVITE goes again
@@ -304,7 +421,7 @@ class Call:
         self._owes_ack = False
         self._is_settled: "asyncio.Future[None]" = loop.create_future()
         self._end: "asyncio.Future[Ended]" = loop.create_future()
-        self._events: Stream[Event] = Stream(refuse_event)
+        self._events: Stream[Event] = Stream(refuse_event, is_no_request, UNREAD_S)
 
     @property
     def is_up(self) -> bool:
@@ -313,8 +430,9 @@ class Call:
 
     async def answered(self) -> Message:
         """Waits until the call is up. Returns the 2xx of an outgoing call, the ACK of an incoming
-        one. Raises CallFailed if it was refused, cancelled, or not answered in time. A timeout of
-        `asyncio.wait_for` leaves the call as it is: `hang_up` ends it."""
+        one. Raises CallFailed if it was refused, cancelled, or not answered in time, and with
+        NO_ACK if the peer never acknowledged its 200. A timeout of `asyncio.wait_for` leaves the
+        call as it is: `hang_up` ends it."""
         await asyncio.shield(self._is_settled)
         if self._answer is None:
             response = self._end.result().response
@@ -326,21 +444,16 @@ class Call:
         return await asyncio.shield(self._end)
 
     def __aiter__(self) -> AsyncIterator[Event]:
-        return self._read()
-
-    async def _read(self) -> AsyncIterator[Event]:
-        if self._end.done():
-            yield self._end.result()
-            return
-        async for event in self._events.read():
-            yield event
+        return self._events.read()
 
     async def request(self, method: str, body: bytes = b"", headers: Headers = ()) -> FinalResponse:
         """Sends a request in the call, such as INFO or a re-INVITE, and returns its final response.
         481 and 408 end the call (RFC 3261, section 12.2.1.2). If the call ends first, the request
         is given up, and this returns 481; if this is cancelled, it is given up, too. A peer may
-        answer a re-INVITE by a 100 alone: bound that by `asyncio.wait_for`. To end the call, use
-        `hang_up`."""
+        answer a re-INVITE by a 100 alone: bound that by `asyncio.wait_for`. BYE, CANCEL, ACK and
+        PRACK raise MethodError: to end the call, use `hang_up`."""
+        if method != "INVITE":
+            check_method(method)
         if self._tags is None or not self.is_up:
             return FinalResponse(481, "Call/Transaction Does Not Exist")
         call_id, tags = self.call_id, self._tags
@@ -375,8 +488,8 @@ class Call:
         second's offer to the first by a re-INVITE (`request`), and the first's answer to the second
         here."""
         if self._owes_ack and self._tags is not None:
-            self._owes_ack = False
             self._agent.ask(Ack(self.call_id, *self._tags, answer, headers))
+            self._owes_ack = False
 
     def hang_up(self, body: bytes = b"", headers: Headers = ()) -> None:
         """Ends the call: by BYE if it is up, else by CANCEL or 603. If it is answered anyway, or
@@ -386,12 +499,12 @@ class Call:
         goes out; without one at most some 32 s later, also if the peer is silent."""
         if self._is_left or self._end.done():
             return
-        self._is_left = True
         self._farewell = (body, headers)
         if self._answer is not None:
             self._say_bye()
         else:
             self._give_up()
+        self._is_left = True
 
     def _give_up(self) -> None:
         """Leaves a call that isn't up."""
@@ -468,7 +581,7 @@ class Call:
             request.respond(491, "Request Pending")
         elif self._reinvite is not None and not self._reinvite.is_answered:
             headers = [("Retry-After", str(random.randint(0, MOST_RETRY_AFTER_S)))]
-            request.respond(500, "Server Internal Error", headers=headers)
+            request.respond(*SERVER_ERROR, headers=headers)
         else:
             self._reinvite = request
             self._give(request)
@@ -639,8 +752,8 @@ class IncomingCall(Call):
             self._finish(Ended(FinalResponse(487, "Request Terminated"), message))
         elif isinstance(notice, NoAckNotice):
             self._agent.forget(self._id)
-            self._is_left = True
             self._say_bye()
+            self._finish(Ended(NO_ACK))
         elif isinstance(notice, NoPrackNotice):
             self.reject(504, "Server Time-out")
         elif isinstance(notice, (TimeoutNotice, FailedNotice)):
@@ -668,6 +781,17 @@ def refuse_event(event: Event) -> None:
         event.refuse()
 
 
+def is_no_request(event: Event) -> bool:
+    """Whether an event can wait for a reader: nobody waits for its answer."""
+    return not isinstance(event, IncomingRequest)
+
+
+def check_method(method: str) -> None:
+    """Raises MethodError if it isn't one that `UserAgent.request` sends."""
+    if method in _SENT_BY:
+        raise MethodError(f"{method} is sent by {_SENT_BY[method]}, not by request")
+
+
 def refuse_call(call: IncomingCall) -> None:
     """A call that nobody takes."""
     call.reject(480, "Temporarily Unavailable")
@@ -690,12 +814,15 @@ def uri_of(value: str) -> str:
 
 async def address_of(uri: str) -> Address:
     """The address of a URI's host, by DNS if it is a name, and its port, 5060 without one. Raises
-    ValueError if the URI isn't a `sip:` URI with a host that is a name or an IPv4 address, or its
-    port isn't a number up to 65,535, and OSError if the name isn't found. What else the URI has
-    isn't checked: `call` may refuse it."""
+    AddressError, a ValueError, if the URI isn't a `sip:` URI with a host that is a name or an IPv4
+    address, its port isn't a number up to 65,535, or its parameter `transport` isn't udp; and
+    OSError if the name isn't found. What else the URI has isn't checked: `call` may refuse it."""
     found = _HOST.match(uri)
     if found is None or int(found[2] or SIP_PORT) > MOST_PORT:
-        raise ValueError(f"no address in {uri!r}")
+        raise AddressError(f"no address in {uri!r}")
+    transport = _TRANSPORT.search(uri, found.end(1))
+    if transport is not None and transport[1].lower() != "udp":
+        raise AddressError(f"transport={transport[1]} in {uri!r}: there is UDP alone")
     host, port = found[1], int(found[2] or SIP_PORT)
     try:
         return str(ipaddress.IPv4Address(host)), port
@@ -715,11 +842,13 @@ class UserAgent:
 
     `uri` is the user's own, which From says. `proxy` is where all requests go, otherwise to the
     address in their URI. The username and the password answer challenges. `on_request` is called
-    with each request outside of calls; without it, they are refused. A peer's call gets 503 while
-    there are `most_calls`, one's own among them; `call` has no limit. With a journal, `left`, a set
-    of str, has the Call-IDs of the calls that a process which died left, or for which `close`
-    didn't wait long enough. They end as by `hang_up`, from the first round on, 20 each 10 ms; what
-    becomes of this isn't told, but `close` waits for it."""
+    with each request outside of calls; without it, they are refused. It may be an async function. A
+    request gets 500 if it raises, or if it is async and ends without an answer; what it raises goes
+    to the event loop's handler of exceptions. A peer's call gets 503 while there are `most_calls`,
+    one's own among them; `call` has no limit. With a journal, `left`, a set of str, has the
+    Call-IDs of the calls that a process which died left, or for which `close` didn't wait long
+    enough. They end as by `hang_up`, from the first round on, 20 each 10 ms; what becomes of this
+    isn't told, but `close` waits for it."""
 
     endpoint: Endpoint
     uri: str
@@ -729,13 +858,15 @@ class UserAgent:
         proxy: Optional[Address] = None,
         username: str = "",
         password: str = "",
-        on_request: Optional[Callable[[IncomingRequest], None]] = None,
+        on_request: Optional[OnRequest] = None,
         most_calls: int = MOST_CALLS,
     ):
         self.proxy = proxy
         self.calls: Set[Call] = set()
         self._login = (username, password)
         self._on_request = on_request
+        # The coroutines of `on_request`.
+        self._serving: "Set[asyncio.Future[object]]" = set()
         self._most_calls = most_calls
         self._dialogs: Dict[Dialog, Call] = {}
         self._handlers: Dict[Id, _Handler] = {}
@@ -771,8 +902,8 @@ class UserAgent:
         URI. Without an offer, the 2xx has one, and `acknowledge` answers it; then leave out
         `supports_100rel`. Its Call-IDs begin with the prefix (without blanks), so that you know the
         call in `left`.
-        Raises as `address_of`, and sip_ua.Error if a field is bad: then, or if this is cancelled,
-        no call has begun."""
+        Raises as `address_of`, which isn't asked if there is an address or a proxy, and a
+        sip_ua.SipUaError if a field is bad: then, or if this is cancelled, no call has begun."""
         to = address or self.proxy or await address_of(uri)
         uris = (uri, from_uri or self.uri, uri)
         call_id = prefix + token_hex(8)
@@ -782,7 +913,8 @@ class UserAgent:
         return call
 
     def incoming(self) -> AsyncIterator[IncomingCall]:
-        """The calls of peers, until `close`. While nobody iterates, they get 480."""
+        """The calls of peers, until `close`. While nobody iterates, they get 480. One coroutine
+        iterates at a time: a second one gets SecondReaderError."""
         return self._incoming.read()
 
     async def request(
@@ -797,7 +929,8 @@ class UserAgent:
         authenticator: Optional[Authenticator] = None,
     ) -> FinalResponse:
         """Sends a request outside of calls, such as OPTIONS, and returns its final response. Raises
-        as `call`."""
+        as `call`, and MethodError for INVITE, BYE, CANCEL, ACK and PRACK."""
+        check_method(method)
         to = address or self.proxy or await address_of(uri)
         uris = (uri, from_uri or self.uri, to_uri or uri)
 
@@ -1053,11 +1186,32 @@ class UserAgent:
         elif notice.method == "INVITE":
             self._take_call(notice, message)
         else:
-            request = IncomingRequest(self, notice, message)
-            if self._on_request is not None:
-                self._on_request(request)
-            else:
-                request.refuse()
+            self._serve(IncomingRequest(self, notice, message))
+
+    def _serve(self, request: IncomingRequest) -> None:
+        """Has `on_request` answer a request. What it raises goes on to the endpoint, which gives it
+        to the loop's handler of exceptions."""
+        if self._on_request is None:
+            request.refuse()
+            return
+        try:
+            serving = self._on_request(request)
+        except Exception:
+            request.respond(*SERVER_ERROR)
+            raise
+        if inspect.isawaitable(serving):
+            task = asyncio.ensure_future(serving)
+            self._serving.add(task)
+            task.add_done_callback(partial(self._served, request))
+
+    def _served(self, request: IncomingRequest, task: "asyncio.Future[object]") -> None:
+        """The coroutine of `on_request` has ended."""
+        self._serving.discard(task)
+        request.respond(*SERVER_ERROR)
+        error = None if task.cancelled() else task.exception()
+        if error is not None:
+            context = {"message": "on_request failed", "exception": error, "future": task}
+            asyncio.get_running_loop().call_exception_handler(context)
 
     def _take_call(self, notice: RequestNotice, invite: Message) -> None:
         """A call of a peer."""
@@ -1079,7 +1233,7 @@ async def open_user_agent(
     proxy: Optional[Address] = None,
     username: str = "",
     password: str = "",
-    on_request: Optional[Callable[[IncomingRequest], None]] = None,
+    on_request: Optional[OnRequest] = None,
     most_calls: int = MOST_CALLS,
     most_transactions: int = MOST_TRANSACTIONS,
     local: Optional[Address] = None,

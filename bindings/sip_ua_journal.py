@@ -34,12 +34,13 @@ from sip_ua import (
     RefusedNotice,
     RequestNotice,
     ResponseNotice,
+    SipUaError,
     Status,
     TimeoutNotice,
 )
 
-__all__ = ["FileJournal", "Held", "HeldDialog", "Journal", "JournalError", "Resumed"]
-__all__ += ["agent_of", "head_of", "held_by", "resumed", "run_again"]
+__all__ = ["FileJournal", "Held", "HeldDialog", "Journal", "JournalError", "JournalFull"]
+__all__ += ["JournalInUse", "Resumed", "agent_of", "head_of", "held_by", "resumed", "run_again"]
 
 _HEAD = re.compile(rb"sip-session 1\nlocal (\S+)\nseed ([0-9a-f]{64})\nfirst (\d+)\n")
 _ROUND = re.compile(rb"^round (\d+)\n", re.MULTILINE)
@@ -47,8 +48,16 @@ _ESCAPE = re.compile(rb"\\(?:x(..)|(.))")
 _ESCAPES = {b"s": b" ", b"r": b"\r", b"n": b"\n", b"t": b"\t", b"\\": b"\\"}
 
 
-class JournalError(Exception):
+class JournalError(SipUaError):
     """The journal is none, is of another agent, or has a bad round before its last one."""
+
+
+class JournalInUse(SipUaError, BlockingIOError):
+    """The journal is open already."""
+
+
+class JournalFull(SipUaError, OSError):
+    """A round wasn't written whole."""
 
 
 class Journal(Protocol):
@@ -80,7 +89,7 @@ class FileJournal:
             fcntl.flock(self._file, fcntl.LOCK_EX | fcntl.LOCK_NB)
         except OSError as error:
             os.close(self._file)
-            raise OSError(error.errno, "the journal is open already", path) from None
+            raise JournalInUse(error.errno, "the journal is open already", path) from None
 
     def read(self) -> bytes:
         """All bytes of the file."""
@@ -94,7 +103,7 @@ class FileJournal:
     def append(self, text: bytes) -> None:
         """Writes a text behind them by one write, or raises an OSError."""
         if os.write(self._file, text) < len(text):
-            raise OSError(errno.ENOSPC, "a round wasn't written whole")
+            raise JournalFull(errno.ENOSPC, "a round wasn't written whole")
         if self._is_synced:
             os.fsync(self._file)
 

@@ -14,7 +14,7 @@ import random
 import re
 from typing import AsyncIterator, Iterator, List, Optional
 
-from sip_ua import Address, Error, Headers, Message
+from sip_ua import Address, Error, Headers, Message, SipUaError
 from sip_ua_calls import CLOSE_S, FinalResponse, Stream, UserAgent, uri_of
 from sip_ua_digest import Authenticator
 
@@ -41,7 +41,7 @@ _CONTACT = re.compile(rf'(?:{_QUOTED}|<[^>]*>|[^,"<])+')
 _EXPIRES = re.compile(rf'{_QUOTED}|<[^>]*>|;\s*expires\s*=\s*"?(\d{{1,10}})', re.IGNORECASE)
 
 
-class RegistrationFailed(Exception):
+class RegistrationFailed(SipUaError):
     """The registrar didn't register the user, for the reason in `response`."""
 
     def __init__(self, response: FinalResponse):

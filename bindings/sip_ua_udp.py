@@ -35,6 +35,8 @@ __all__ = ["Endpoint", "MOST_TRANSACTIONS", "open_endpoint", "open_resumed"]
 
 # How many transactions are held at one time: those of some 3,000 requests a second.
 MOST_TRANSACTIONS = 100000
+# How many bytes a request may have that begins a transaction.
+LARGEST_REQUEST = 16384
 # A CANCEL, or a request with a tag in To.
 _OF_CALL = re.compile(
     rb"\A\s*CANCEL |^(?:to|t)[ \t]*:[^\r\n]*;[ \t]*tag[ \t]*=", re.IGNORECASE | re.MULTILINE
@@ -46,11 +48,12 @@ OnTold = Callable[[Union[Notice, Drop]], None]
 
 class Endpoint(asyncio.DatagramProtocol):
     """An agent with its socket. `open_endpoint` opens one, and `close` closes it. `agent` is the
-    Agent. `local` is what Via and Contact say. `lost` counts the datagrams that had no room in a
-    round or above `most_transactions`, and `reflected` the responses that weren't sent since their
-    request came again from another address (`Agent.is_reflected`). `is_closed` says whether it was
-    closed: by `close`, or since its journal couldn't be written. Then `ask` raises Error NO_AGENT.
-    `on_closed`, if it is set, is called then."""
+    Agent. `local` is what Via and Contact say. A request that would begin a transaction may have
+    `largest` bytes: 16,384, unless you set it. `lost` counts the datagrams that were larger, or had
+    no room in a round or above `most_transactions`, and `reflected` the responses that weren't sent
+    since their request came again from another address (`Agent.is_reflected`). `is_closed` says
+    whether it was closed: by `close`, or since its journal couldn't be written. Then `ask` raises
+    Error NO_AGENT. `on_closed`, if it is set, is called then."""
 
     def __init__(
         self,
@@ -65,6 +68,7 @@ class Endpoint(asyncio.DatagramProtocol):
         self.local = local
         self.lost = 0
         self.reflected = 0
+        self.largest = LARGEST_REQUEST
         self._most_transactions = most_transactions
         self._on_told = on_told
         self._loop = asyncio.get_running_loop()
@@ -82,7 +86,8 @@ class Endpoint(asyncio.DatagramProtocol):
 
     def ask(self, command: Command) -> Id:
         """Gives a command. Notices about it have the id that this returns. A bad field raises an
-        Error, a port above 65,535 or a bad IP a ValueError."""
+        Error, a port above 65,535 or a bad IP a ValueError, a header that isn't a str a TypeError.
+        Each is a SipUaError."""
         event = self.agent.ask(command)
         self._run_soon()
         return event
@@ -137,13 +142,17 @@ class Endpoint(asyncio.DatagramProtocol):
         self._run_soon()
 
     def _is_shed(self, data: bytes) -> bool:
-        """Whether a datagram would begin a transaction while too many are held. Those of calls that
-        stand are shed at twice that load."""
+        """Whether a datagram would begin a transaction, and is too large, or too many are held."""
+        is_usual = len(data) <= self.largest and self._has_room(data)
+        return not is_usual and self.agent.would_begin(data)
+
+    def _has_room(self, data: bytes) -> bool:
+        """Whether another transaction may be held: at the limit one of a call that stands, and at
+        twice that none."""
         load = self.agent.stats().transactions
         if load < self._most_transactions:
-            return False
-        is_of_call = load < 2 * self._most_transactions and _OF_CALL.search(data) is not None
-        return not is_of_call and self.agent.would_begin(data)
+            return True
+        return load < 2 * self._most_transactions and _OF_CALL.search(data) is not None
 
     def error_received(self, exc: Exception) -> None:
         """A send failed: called within sendto, or later if the network refused it."""

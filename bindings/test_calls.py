@@ -13,8 +13,9 @@ from unittest import mock
 from b2bua import B2bua
 from click_to_call import connect
 from scripted import Peer, Registrar, header, is_answer_right, open_peer, response
-from sip_ua import Message
+from sip_ua import AddressError, BadValueError, Error, HeaderTypeError, Message, SipUaError
 from sip_ua_calls import (
+    NO_ACK,
     Answered,
     Call,
     CallFailed,
@@ -22,13 +23,16 @@ from sip_ua_calls import (
     Event,
     IncomingCall,
     IncomingRequest,
+    MethodError,
+    OnRequest,
     OutgoingCall,
     Progress,
+    SecondReaderError,
     UserAgent,
     address_of,
     open_user_agent,
 )
-from sip_ua_journal import FileJournal, JournalError
+from sip_ua_journal import FileJournal, JournalError, JournalFull, JournalInUse
 from sip_ua_registration import RegistrationFailed, granted_s, register
 from sip_ua_udp import open_endpoint
 
@@ -41,6 +45,8 @@ OPTIONS = (
     "CSeq: 1 OPTIONS\r\n\r\n"
 )
 PATIENCE_S = 30.0
+# 64 times T1, and a second.
+NO_ACK_S = 33.0
 # How a registrar challenges.
 SCHEMES = [("MD5", 407), ("SHA-256", 401)]
 # The nonces and their counts for a 423, a 200, a refresh, a stale nonce and a removal.
@@ -75,6 +81,23 @@ async def next_call(agent: UserAgent) -> IncomingCall:
 async def until(is_so: Callable[[], bool]) -> None:
     while not is_so():
         await asyncio.sleep(0.01)
+
+
+class ErrorsTest(unittest.TestCase):
+    def test_their_bases(self) -> None:
+        """Each has the common base, and what it was before."""
+        plain = (Error, CallFailed, RegistrationFailed, JournalError)
+        values = (BadValueError, AddressError, MethodError)
+        self.assertTrue(all(issubclass(kind, SipUaError) for kind in plain))
+        self.assertTrue(all(issubclass(kind, SipUaError) for kind in values))
+        self.assertTrue(all(issubclass(kind, ValueError) for kind in values))
+        for kind, base in (
+            (HeaderTypeError, TypeError),
+            (SecondReaderError, RuntimeError),
+            (JournalInUse, BlockingIOError),
+            (JournalFull, OSError),
+        ):
+            self.assertTrue(issubclass(kind, SipUaError) and issubclass(kind, base))
 
 
 class CallsTest(unittest.IsolatedAsyncioTestCase):
@@ -138,8 +161,65 @@ class CallsTest(unittest.IsolatedAsyncioTestCase):
         assert end.message is not None
         self.assertEqual(end.message.method, "BYE")
         self.assertEqual(await soon(incoming.ended()), Ended())
-        # The iterator of a call that has ended gives its end.
+        # The events were kept. A later iterator gives the end alone.
+        kinds = [type(event) for event in await soon(events_of(outgoing))]
+        self.assertEqual(kinds, [Progress, Answered, Ended])
         self.assertEqual(await soon(events_of(outgoing)), [end])
+
+    async def test_a_second_reader(self) -> None:
+        """It gets an error, while the first waits and also while it doesn't."""
+        outgoing, incoming = await self.up()
+        events = outgoing.__aiter__()
+        self.assertIsInstance(await soon(events.__anext__()), Progress)
+        with self.assertRaises(SecondReaderError):
+            await soon(events_of(outgoing))
+        self.assertIsInstance(await soon(events.__anext__()), Answered)
+        waiting = asyncio.ensure_future(events.__anext__())
+        await asyncio.sleep(0)
+        for second in (events.__anext__(), outgoing.__aiter__().__anext__()):
+            with self.assertRaises(SecondReaderError):
+                await soon(second)
+        incoming.hang_up()
+        self.assertEqual(await soon(waiting), await soon(outgoing.ended()))
+
+    async def test_one_reader_after_another(self) -> None:
+        """A wait that is bounded, or a loop that is left, loses no event."""
+        outgoing, incoming = await self.ringing()
+        events = outgoing.__aiter__()
+        self.assertIsInstance(await soon(events.__anext__()), Progress)
+        with self.assertRaises(asyncio.TimeoutError):
+            await asyncio.wait_for(events.__anext__(), 0.05)
+        incoming.answer(ANSWER)
+        self.assertIsInstance(await soon(events.__anext__()), Answered)
+        del events
+        await soon(incoming.answered())
+        for method in ("INFO", "OPTIONS"):
+            asked = asyncio.ensure_future(incoming.request(method))
+            async for event in outgoing:
+                assert isinstance(event, IncomingRequest)
+                event.respond(299, "Fine")
+                break
+            self.assertEqual((await soon(asked)).status, 299)
+
+    async def test_requests_that_wait_when_the_iterator_ends(self) -> None:
+        """They are refused, as those that come then, unless somebody reads soon."""
+        outgoing, incoming = await self.up()
+        events = outgoing.__aiter__()
+        for kind in (Progress, Answered):
+            self.assertIsInstance(await soon(events.__anext__()), kind)
+        asked = asyncio.ensure_future(incoming.request("INFO"))
+        await asyncio.sleep(0.2)
+        self.assertFalse(asked.done())
+        del events
+        self.assertEqual((await soon(asked)).status, 405)
+        self.assertEqual((await soon(incoming.request("INFO"))).status, 405)
+        asked = asyncio.ensure_future(incoming.request("INFO"))
+        await asyncio.sleep(0.1)
+        async for event in outgoing:
+            assert isinstance(event, IncomingRequest)
+            event.respond(299, "Fine")
+            break
+        self.assertEqual((await soon(asked)).status, 299)
 
     async def test_requests_that_are_open_at_the_end(self) -> None:
         """A request of ours is given up then, and one of the peer gets a 487."""
@@ -299,6 +379,91 @@ class CallsTest(unittest.IsolatedAsyncioTestCase):
         self.assertEqual(refused.status, 405)
         self.assertIn("INVITE", refused.message.value("Allow"))
 
+    async def served(self, on_request: OnRequest, status: int) -> List[str]:
+        """What the loop's handler of exceptions is told as a request gets this status."""
+        told: List[str] = []
+        loop = asyncio.get_running_loop()
+        loop.set_exception_handler(lambda _, context: told.append(str(context["exception"])))
+        async with await open_user_agent(LIBRARY, ANY_PORT, on_request=on_request) as agent:
+            self.assertEqual((await soon(self.one.request("MESSAGE", agent.uri))).status, status)
+        loop.set_exception_handler(None)
+        return told
+
+    async def test_a_handler_of_requests_that_raises(self) -> None:
+        def fails(request: IncomingRequest) -> None:
+            raise KeyError(request.method)
+
+        self.assertEqual(await self.served(fails, 500), ["'MESSAGE'"])
+
+    async def test_a_handler_of_requests_that_is_async(self) -> None:
+        async def answers(request: IncomingRequest) -> None:
+            await asyncio.sleep(0.1)
+            request.respond(299, "Fine")
+
+        async def fails(request: IncomingRequest) -> None:
+            await asyncio.sleep(0.1)
+            raise KeyError(request.method)
+
+        async def fails_late(request: IncomingRequest) -> None:
+            await answers(request)
+            await fails(request)
+
+        async def rings(request: IncomingRequest) -> None:
+            await asyncio.sleep(0.1)
+            request.respond(183, "Session Progress")
+
+        self.assertEqual(await self.served(answers, 299), [])
+        self.assertEqual(await self.served(fails, 500), ["'MESSAGE'"])
+        self.assertEqual(await self.served(rings, 500), [])
+
+    async def test_methods_that_request_does_not_send(self) -> None:
+        outgoing, _ = await self.up()
+        for method in ("BYE", "CANCEL", "ACK", "PRACK"):
+            for asked in (outgoing.request(method), self.one.request(method, self.two.uri)):
+                with self.assertRaisesRegex(MethodError, f"^{method} "):
+                    await soon(asked)
+        with self.assertRaisesRegex(MethodError, "^INVITE .*UserAgent.call"):
+            await soon(self.one.request("INVITE", self.two.uri))
+        self.assertTrue(outgoing.is_up)
+
+    async def test_headers_that_are_no_texts(self) -> None:
+        """The error names the header, and the one before doesn't go with the next request."""
+        wrong: Any
+        for wrong in (5, None, b"five"):
+            headers = [("X-A", "b"), ("X-Count", wrong)]
+            with self.assertRaisesRegex(HeaderTypeError, "X-Count"):
+                await self.one.call(self.two.uri, OFFER, headers)
+            with self.assertRaisesRegex(HeaderTypeError, "X-Count"):
+                await soon(self.one.request("OPTIONS", self.two.uri, headers=headers))
+        outgoing, incoming = await self.ringing()
+        self.assertEqual(incoming.invite.values("X-A"), [])
+        self.assertEqual(self.one.calls, {outgoing})
+        incoming.answer(ANSWER)
+        await soon(outgoing.answered())
+        with self.assertRaisesRegex(HeaderTypeError, "X-Count"):
+            outgoing.hang_up(headers=headers)
+        self.assertTrue(outgoing.is_up)
+        outgoing.hang_up(headers=[("X-A", "b")])
+        end = await soon(incoming.ended())
+        assert end.message is not None
+        self.assertEqual(end.message.values("X-A"), ["b"])
+
+    async def test_other_transports(self) -> None:
+        for transport in ("tcp", "TLS", "sctp", "ws"):
+            with self.assertRaisesRegex(AddressError, f"transport={transport}"):
+                await self.one.call(f"{self.two.uri};lr;Transport={transport}")
+            with self.assertRaisesRegex(AddressError, f"transport={transport}"):
+                await self.one.request("OPTIONS", f"{self.two.uri};transport={transport}?a=b")
+            there: Any = (f"127.0.0.1;transport={transport}", 5060)
+            with self.assertRaisesRegex(AddressError, f"transport={transport}"):
+                await self.one.call(self.two.uri, address=there)
+        uri = f"{self.two.uri};transport=UDP"
+        self.assertEqual((await soon(self.one.request("OPTIONS", uri))).status, 200)
+        # With an address the URI is the next hop's affair.
+        uri, there = f"{self.two.uri};transport=tcp", self.two.endpoint.local
+        asked = self.one.request("OPTIONS", uri, address=there)
+        self.assertEqual((await soon(asked)).status, 200)
+
     async def test_the_answer_in_the_ack(self) -> None:
         outgoing, incoming = await self.ringing(b"")
         incoming.answer(OFFER)
@@ -377,6 +542,21 @@ class CallsTest(unittest.IsolatedAsyncioTestCase):
         self.assertFalse(asked.done())
         asked.cancel()
         await busy.close(0.1)
+
+    async def test_a_request_that_is_too_large(self) -> None:
+        """It begins nothing; one of as many bytes as may be is answered."""
+        endpoint = self.one.endpoint
+        endpoint.largest = 600
+        with bound("127.0.0.1") as peer:
+            request = OPTIONS.replace("PORT", str(peer.getsockname()[1]))
+            for name, length in [("large", 601), ("right", 600)]:
+                head, end = request.replace("branch=z9hG4bK", f"branch=z9hG4bK{name}"), "\r\n\r\n"
+                text = head.replace(end, f"\r\nX: {end}")
+                text = text.replace("X: ", "X: " + (length - len(text)) * "x")
+                peer.sendto(text.encode(), endpoint.local)
+            answer = await soon(asyncio.get_running_loop().sock_recv(peer, 4096))
+            self.assertIn(b"z9hG4bKright", answer)
+        self.assertEqual(endpoint.lost, 1)
 
     async def test_a_repeat_from_another_address(self) -> None:
         """The response isn't sent again to whoever asked first."""
@@ -542,6 +722,8 @@ class LeftTest(unittest.IsolatedAsyncioTestCase):
         for bad in ("b@h", "sip:h:x", "sip:h:", "sip:h:99999", "sip:[::1]:5", "sip:h i", "sip:"):
             with self.assertRaises(ValueError):
                 await address_of(bad)
+        for good in ("sip:127.0.0.1;transport=udp", "sip:b;transport=tcp@127.0.0.1"):
+            self.assertEqual(await address_of(good), ("127.0.0.1", 5060))
 
 
 class BridgeTest(unittest.IsolatedAsyncioTestCase):
@@ -695,6 +877,30 @@ class ScriptedTest(unittest.IsolatedAsyncioTestCase):
             await soon(call.answered())
         await soon(call.ended())
         await soon(until(lambda: peer.methods == ["INVITE", "CANCEL", "ACK", "BYE"]))
+
+    async def test_a_caller_never_acknowledges(self) -> None:
+        def answer(message: str) -> List[str]:
+            return [response(message, "200 OK")] if message.startswith("BYE") else []
+
+        peer, _ = await self.peer(answer)
+        coming = asyncio.ensure_future(next_call(self.agent))
+        await asyncio.sleep(0)
+        invite = OPTIONS.replace("OPTIONS", "INVITE").replace("PORT", str(peer.port))
+        assert peer.transport is not None
+        head = invite.replace("CSeq", f"{peer.contact()}CSeq").encode()
+        peer.transport.sendto(head, self.agent.endpoint.local)
+        call = await soon(coming)
+        call.answer(ANSWER)
+        await asyncio.sleep(0.1)
+        # Time passes.
+        self.agent.endpoint._start -= NO_ACK_S
+        self.agent.endpoint._run_soon()
+        with self.assertRaises(CallFailed) as failed:
+            await soon(call.answered())
+        self.assertEqual(failed.exception.response, NO_ACK)
+        self.assertEqual(await soon(call.ended()), Ended(NO_ACK))
+        self.assertEqual(await soon(events_of(call)), [Ended(NO_ACK)])
+        await soon(until(lambda: peer.methods == ["BYE"]))
 
     async def test_a_call_is_challenged(self) -> None:
         """The INVITE comes again with credentials, and so does the BYE at once."""

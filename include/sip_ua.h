@@ -196,20 +196,27 @@ enum {
 
 /* Why a command was refused. */
 enum {
-    SIP_UA_REFUSAL_CALL_IN_USE = 1,
-    SIP_UA_REFUSAL_NO_SUCH_CALL = 2,
-    SIP_UA_REFUSAL_NO_SUCH_DIALOG = 3,
-    SIP_UA_REFUSAL_NO_SUCH_REQUEST = 4,
-    SIP_UA_REFUSAL_ALREADY_FINAL = 5,
-    SIP_UA_REFUSAL_BAD_STATUS = 6,
-    SIP_UA_REFUSAL_RELIABLE_PENDING = 7,
-    SIP_UA_REFUSAL_NOT_SUPPORTED = 8,
-    SIP_UA_REFUSAL_NOTHING_TO_ACK = 9,
-    SIP_UA_REFUSAL_NOTHING_TO_PRACK = 10,
-    SIP_UA_REFUSAL_SEQUENCE_USED_UP = 11,
-    SIP_UA_REFUSAL_STRICT_ROUTE = 12,
-    SIP_UA_REFUSAL_DIALOG_ENDED = 13,
-    SIP_UA_REFUSAL_BAD_METHOD = 14
+    /* generated from bindings/commands.tsv: begin refusals */
+    SIP_UA_REFUSAL_CALL_IN_USE = 1,       /* the Call-ID is in use */
+    SIP_UA_REFUSAL_NO_SUCH_CALL = 2,      /* no such call */
+    SIP_UA_REFUSAL_NO_SUCH_DIALOG = 3,    /* no such dialog */
+    SIP_UA_REFUSAL_NO_SUCH_REQUEST = 4,   /* no such request */
+    SIP_UA_REFUSAL_ALREADY_FINAL = 5,     /* the request already has a final response */
+    SIP_UA_REFUSAL_BAD_STATUS = 6,        /* the status isn't 101 to 699 */
+    SIP_UA_REFUSAL_RELIABLE_PENDING = 7,  /* a reliable response while the first one waits for its
+                                             PRACK, while eight wait, or, once one was given up,
+                                             until none waits; a 2xx while one with a body waits */
+    SIP_UA_REFUSAL_NOT_SUPPORTED = 8,     /* a reliable response that isn't 101 to 199, isn't to an
+                                             INVITE, or whose INVITE doesn't have 100rel */
+    SIP_UA_REFUSAL_NOTHING_TO_ACK = 9,    /* no 2xx needs an ACK */
+    SIP_UA_REFUSAL_NOTHING_TO_PRACK = 10, /* no response needs a PRACK */
+    SIP_UA_REFUSAL_SEQUENCE_USED_UP = 11, /* the CSeq or RSeq numbers are used up */
+    SIP_UA_REFUSAL_STRICT_ROUTE = 12,     /* the first route is a strict router */
+    SIP_UA_REFUSAL_DIALOG_ENDED = 13,     /* the dialog has ended */
+    SIP_UA_REFUSAL_BAD_METHOD = 14        /* `request` and `plain` send no ACK, PRACK and CANCEL,
+                                             `plain` no INVITE and BYE, `request` in an early dialog
+                                             no INVITE and, as callee, no BYE */
+    /* generated from bindings/commands.tsv: end */
 };
 
 /* Why a datagram was dropped. */
@@ -258,6 +265,7 @@ typedef struct sip_ua_asked {
 
 /* The fields of a command that can be bad, and when they are. */
 enum {
+    /* generated from bindings/commands.tsv: begin bad-fields */
     SIP_UA_FIELD_CALL_ID = 1,     /* empty, or with a space, a tab or a line end */
     SIP_UA_FIELD_METHOD = 2,      /* not a token */
     SIP_UA_FIELD_REQUEST_URI = 3, /* empty, without a scheme, or with a space, a tab, a line end,
@@ -271,11 +279,15 @@ enum {
     SIP_UA_FIELD_HEADERS = 10     /* a header that a user can't give, a value that doesn't have its
                                      header's form, a Route for a command that takes none, or any
                                      header of a cancel */
+    /* generated from bindings/commands.tsv: end */
 };
 
-/* An initial INVITE. It is sent to `address`. `request_uri`, `from` and `to` are URIs, without tags
- * and display names. `requires_100rel` overrides `supports_100rel`. For all commands: a body has
- * the type application/sdp, unless a header Content-Type says another one. */
+/* generated from bindings/commands.tsv: begin fields */
+/* The fields of commands. The URIs have no tags and display names. The tags are those of the
+ * notices; an absent tag is empty. The status is 101 to 699. `requires_100rel` overrides
+ * `supports_100rel`. A body may be empty. It is application/sdp, unless a header Content-Type says
+ * otherwise. Headers are pairs of a name and a value. */
+
 typedef struct sip_ua_invite_fields {
     sip_ua_bytes call_id;
     sip_ua_address address;
@@ -289,7 +301,6 @@ typedef struct sip_ua_invite_fields {
     size_t header_count;
 } sip_ua_invite_fields;
 
-/* A request outside of any dialog, such as REGISTER or OPTIONS. */
 typedef struct sip_ua_plain_fields {
     sip_ua_bytes call_id;
     sip_ua_address address;
@@ -302,8 +313,6 @@ typedef struct sip_ua_plain_fields {
     size_t header_count;
 } sip_ua_plain_fields;
 
-/* A request in a dialog, such as BYE or a re-INVITE. The tags are those of the notices; an absent
- * tag is empty. */
 typedef struct sip_ua_request_fields {
     sip_ua_bytes call_id;
     sip_ua_bytes local_tag;
@@ -314,7 +323,6 @@ typedef struct sip_ua_request_fields {
     size_t header_count;
 } sip_ua_request_fields;
 
-/* The response to a request. The id is that of the request's notice. */
 typedef struct sip_ua_respond_fields {
     sip_ua_bytes call_id;
     sip_ua_id id;
@@ -326,7 +334,7 @@ typedef struct sip_ua_respond_fields {
     size_t header_count;
 } sip_ua_respond_fields;
 
-/* An ACK or a PRACK in a dialog. */
+/* Of ack and prack. */
 typedef struct sip_ua_body_fields {
     sip_ua_bytes call_id;
     sip_ua_bytes local_tag;
@@ -336,24 +344,22 @@ typedef struct sip_ua_body_fields {
     size_t header_count;
 } sip_ua_body_fields;
 
-/* The CANCEL of an INVITE that you sent. The id is that of the INVITE. */
 typedef struct sip_ua_cancel_fields {
     sip_ua_bytes call_id;
     sip_ua_id id;
 } sip_ua_cancel_fields;
 
-/* Gives up a request that you sent. The id is that of its command. */
 typedef struct sip_ua_abandon_request_fields {
     sip_ua_bytes call_id;
     sip_ua_id id;
 } sip_ua_abandon_request_fields;
 
-/* Gives up a dialog. The tags are those of the notices; an absent tag is empty. */
 typedef struct sip_ua_abandon_dialog_fields {
     sip_ua_bytes call_id;
     sip_ua_bytes local_tag;
     sip_ua_bytes remote_tag;
 } sip_ua_abandon_dialog_fields;
+/* generated from bindings/commands.tsv: end */
 
 /* What a request says of itself, and its notice doesn't, or none. */
 typedef struct sip_ua_request_traits {
@@ -473,6 +479,7 @@ static inline const char *sip_ua_status_text(uint32_t status)
 static inline const char *sip_ua_refusal_text(uint32_t number)
 {
     switch (number) {
+    /* generated from bindings/commands.tsv: begin texts */
     case 1: return "the Call-ID is in use";
     case 2: return "no such call";
     case 3: return "no such dialog";
@@ -487,6 +494,7 @@ static inline const char *sip_ua_refusal_text(uint32_t number)
     case 12: return "the first route is a strict router";
     case 13: return "the dialog has ended";
     case 14: return "this command can't send this method, or not in an early dialog";
+    /* generated from bindings/commands.tsv: end */
     default: return "unknown reason";
     }
 }
@@ -529,6 +537,7 @@ uint32_t sip_ua_raw_event_line(sip_ua *agent, const uint8_t *line, size_t len);
 uint32_t sip_ua_raw_event_lines(sip_ua *agent, const uint8_t *lines, size_t len);
 uint32_t sip_ua_raw_header(sip_ua *agent, const uint8_t *name, size_t name_len,
                            const uint8_t *value, size_t value_len);
+/* generated from bindings/commands.tsv: begin library */
 uint32_t sip_ua_raw_invite(sip_ua *agent, const uint8_t *call_id, size_t call_id_len,
                            const sip_ua_address *address, const uint8_t *request_uri,
                            size_t request_uri_len, const uint8_t *from, size_t from_len,
@@ -542,9 +551,9 @@ uint32_t sip_ua_raw_plain(sip_ua *agent, const uint8_t *call_id, size_t call_id_
                           size_t body_len, sip_ua_asked *asked);
 uint32_t sip_ua_raw_request(sip_ua *agent, const uint8_t *call_id, size_t call_id_len,
                             const uint8_t *local_tag, size_t local_tag_len,
-                            const uint8_t *remote_tag, size_t remote_tag_len,
-                            const uint8_t *method, size_t method_len, const uint8_t *body,
-                            size_t body_len, sip_ua_asked *asked);
+                            const uint8_t *remote_tag, size_t remote_tag_len, const uint8_t *method,
+                            size_t method_len, const uint8_t *body, size_t body_len,
+                            sip_ua_asked *asked);
 uint32_t sip_ua_raw_respond(sip_ua *agent, const uint8_t *call_id, size_t call_id_len,
                             uint64_t round, uint32_t place, uint16_t status, bool is_reliable,
                             const uint8_t *reason, size_t reason_len, const uint8_t *body,
@@ -554,9 +563,9 @@ uint32_t sip_ua_raw_ack(sip_ua *agent, const uint8_t *call_id, size_t call_id_le
                         size_t remote_tag_len, const uint8_t *body, size_t body_len,
                         sip_ua_asked *asked);
 uint32_t sip_ua_raw_prack(sip_ua *agent, const uint8_t *call_id, size_t call_id_len,
-                          const uint8_t *local_tag, size_t local_tag_len,
-                          const uint8_t *remote_tag, size_t remote_tag_len, const uint8_t *body,
-                          size_t body_len, sip_ua_asked *asked);
+                          const uint8_t *local_tag, size_t local_tag_len, const uint8_t *remote_tag,
+                          size_t remote_tag_len, const uint8_t *body, size_t body_len,
+                          sip_ua_asked *asked);
 uint32_t sip_ua_raw_cancel(sip_ua *agent, const uint8_t *call_id, size_t call_id_len,
                            uint64_t round, uint32_t place, sip_ua_asked *asked);
 uint32_t sip_ua_raw_abandon_request(sip_ua *agent, const uint8_t *call_id, size_t call_id_len,
@@ -565,6 +574,7 @@ uint32_t sip_ua_raw_abandon_dialog(sip_ua *agent, const uint8_t *call_id, size_t
                                    const uint8_t *local_tag, size_t local_tag_len,
                                    const uint8_t *remote_tag, size_t remote_tag_len,
                                    sip_ua_asked *asked);
+/* generated from bindings/commands.tsv: end */
 uint32_t sip_ua_raw_failed(sip_ua *agent, size_t output);
 uint32_t sip_ua_raw_run(sip_ua *agent, uint64_t moment);
 uint32_t sip_ua_raw_next_output(sip_ua *agent, sip_ua_output *output, uint8_t *buffer, size_t room);
@@ -646,9 +656,9 @@ static inline uint32_t sip_ua_event_lines(sip_ua *agent, const char *lines, size
  *
  * A command means what the line of the same name means in docs/FORMATS.md. `asked` may be NULL. If
  * not, notices about the command have its `id` (a refusal its place: `command` of the output).
- * `bad_field` is 0, except
- * after SIP_UA_BAD_FIELD. After SIP_UA_BAD_FIELD, SIP_UA_TOO_MANY_EVENTS, SIP_UA_NO_MEMORY and
- * SIP_UA_NULL there is no command. If the core refuses a command later, a notice says so. */
+ * `bad_field` is 0, except after SIP_UA_BAD_FIELD. After SIP_UA_BAD_FIELD, SIP_UA_TOO_MANY_EVENTS,
+ * SIP_UA_NO_MEMORY and SIP_UA_NULL there is no command. If the core refuses a command later, a
+ * notice says so: SIP_UA_REFUSAL_.. */
 
 /* The bytes of a string, without the zero byte at its end. */
 static inline sip_ua_bytes sip_ua_string(const char *string)
@@ -697,7 +707,9 @@ static inline sip_ua_asked *sip_ua_raw_asked(sip_ua_asked *asked, sip_ua_asked *
     return told;
 }
 
-/* Starts a call: sends an initial INVITE. */
+/* generated from bindings/commands.tsv: begin functions */
+/* Starts a call: sends an initial INVITE to an address. See RFC 3261, section 13.2.1. Refusals:
+ * CALL_IN_USE. */
 static inline uint32_t sip_ua_invite(sip_ua *agent, const sip_ua_invite_fields *fields,
                                      sip_ua_asked *asked)
 {
@@ -717,7 +729,8 @@ static inline uint32_t sip_ua_invite(sip_ua *agent, const sip_ua_invite_fields *
                              told);
 }
 
-/* Sends a request outside of any dialog. */
+/* Sends a request outside of any dialog to an address. REGISTER and OPTIONS are such. See RFC 3261,
+ * section 8.1.1. Refusals: CALL_IN_USE, BAD_METHOD. */
 static inline uint32_t sip_ua_plain(sip_ua *agent, const sip_ua_plain_fields *fields,
                                     sip_ua_asked *asked)
 {
@@ -738,8 +751,10 @@ static inline uint32_t sip_ua_plain(sip_ua *agent, const sip_ua_plain_fields *fi
                             fields->body.len, told);
 }
 
-/* Sends a request in a dialog. To offer 100rel in a re-INVITE, give the header Supported or Require
- * with 100rel: its reliable provisional responses get their PRACKs as those of a first INVITE. */
+/* Sends a request in a dialog, such as BYE or a re-INVITE. To offer 100rel in a re-INVITE, give the
+ * header Supported or Require with 100rel: its reliable provisional responses get their PRACKs as
+ * those of a first INVITE. See RFC 3261, section 12.2.1.1. Refusals: NO_SUCH_CALL, NO_SUCH_DIALOG,
+ * BAD_METHOD, STRICT_ROUTE, SEQUENCE_USED_UP. */
 static inline uint32_t sip_ua_request(sip_ua *agent, const sip_ua_request_fields *fields,
                                       sip_ua_asked *asked)
 {
@@ -758,9 +773,11 @@ static inline uint32_t sip_ua_request(sip_ua *agent, const sip_ua_request_fields
                               sip_ua_raw_at(fields->body), fields->body.len, told);
 }
 
-/* Sends a response to a request. While the first reliable response waits for its PRACK, another one
- * is refused (7), and so is a 2xx while one with a body waits: give these after SIP_UA_NOTICE_PRACK
- * or SIP_UA_NOTICE_NO_PRACK. A response of 300 to 699 is taken at any time. */
+/* Answers the request with this id, that of its notice; if an INVITE requires 100rel, each response
+ * of 101 to 199 is reliable. What is refused as RELIABLE_PENDING can be given again after the
+ * notice PRACK or NO_PRACK. A response of 300 to 699 is taken at any time. See RFC 3261, section
+ * 8.2.6; RFC 3262, section 3. Refusals: NO_SUCH_CALL, NO_SUCH_REQUEST, ALREADY_FINAL,
+ * NOT_SUPPORTED, DIALOG_ENDED, RELIABLE_PENDING, SEQUENCE_USED_UP. */
 static inline uint32_t sip_ua_respond(sip_ua *agent, const sip_ua_respond_fields *fields,
                                       sip_ua_asked *asked)
 {
@@ -778,7 +795,9 @@ static inline uint32_t sip_ua_respond(sip_ua *agent, const sip_ua_respond_fields
                               told);
 }
 
-/* Sends the ACK of the dialog's oldest 2xx that still needs one. Its body may be empty. */
+/* Sends the ACK of the dialog's oldest 2xx that needs one; most go out by themselves
+ * (docs/EMBEDDING.md). See RFC 3261, section 13.2.2.4. Refusals: NO_SUCH_CALL, NO_SUCH_DIALOG,
+ * NOTHING_TO_ACK, STRICT_ROUTE. */
 static inline uint32_t sip_ua_ack(sip_ua *agent, const sip_ua_body_fields *fields,
                                   sip_ua_asked *asked)
 {
@@ -796,7 +815,9 @@ static inline uint32_t sip_ua_ack(sip_ua *agent, const sip_ua_body_fields *field
                           sip_ua_raw_at(fields->body), fields->body.len, told);
 }
 
-/* Sends the PRACK of the dialog's oldest reliable provisional response that still needs one. */
+/* Sends the PRACK of the dialog's oldest reliable provisional response that needs one; most go out
+ * by themselves (docs/EMBEDDING.md). See RFC 3262, section 4. Refusals: NO_SUCH_CALL,
+ * NO_SUCH_DIALOG, NOTHING_TO_PRACK, STRICT_ROUTE, SEQUENCE_USED_UP. */
 static inline uint32_t sip_ua_prack(sip_ua *agent, const sip_ua_body_fields *fields,
                                     sip_ua_asked *asked)
 {
@@ -814,7 +835,8 @@ static inline uint32_t sip_ua_prack(sip_ua *agent, const sip_ua_body_fields *fie
                             sip_ua_raw_at(fields->body), fields->body.len, told);
 }
 
-/* Cancels an INVITE that you sent; also a re-INVITE, whose dialog stays. */
+/* Cancels the INVITE with this id, that of its command. The dialog of a re-INVITE stays. See RFC
+ * 3261, section 9.1. Refusals: NO_SUCH_CALL, NO_SUCH_REQUEST, ALREADY_FINAL. */
 static inline uint32_t sip_ua_cancel(sip_ua *agent, const sip_ua_cancel_fields *fields,
                                      sip_ua_asked *asked)
 {
@@ -825,8 +847,9 @@ static inline uint32_t sip_ua_cancel(sip_ua *agent, const sip_ua_cancel_fields *
                              fields->id.round, fields->id.place, told);
 }
 
-/* Gives up a request that you sent, such as an INVITE whose peer is dead: it is no longer held, its
- * early dialogs end (NOTICE_ENDED), and nothing more is sent or told of it. */
+/* Gives up the request with this id, that of its command: it is no longer held, its early dialogs
+ * end, and nothing more is sent or told of it. An INVITE whose peer is dead needs that. For each
+ * early dialog the notice ENDED follows. Refusals: NO_SUCH_CALL, NO_SUCH_REQUEST. */
 static inline uint32_t sip_ua_abandon_request(sip_ua *agent,
                                               const sip_ua_abandon_request_fields *fields,
                                               sip_ua_asked *asked)
@@ -838,7 +861,8 @@ static inline uint32_t sip_ua_abandon_request(sip_ua *agent,
                                       fields->id.round, fields->id.place, told);
 }
 
-/* Gives up a dialog: it ends (NOTICE_ENDED), and nothing is sent. */
+/* Gives up the dialog with these tags: it ends, and nothing is sent. The notice ENDED follows.
+ * Refusals: NO_SUCH_CALL, NO_SUCH_DIALOG. */
 static inline uint32_t sip_ua_abandon_dialog(sip_ua *agent,
                                              const sip_ua_abandon_dialog_fields *fields,
                                              sip_ua_asked *asked)
@@ -852,6 +876,7 @@ static inline uint32_t sip_ua_abandon_dialog(sip_ua *agent,
                                      sip_ua_raw_at(fields->remote_tag), fields->remote_tag.len,
                                      told);
 }
+/* generated from bindings/commands.tsv: end */
 
 /* ---- the rest of a host's loop */
 

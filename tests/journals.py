@@ -93,6 +93,30 @@ def set_aside(journal):
 
 
 @test
+def what_is_dropped_has_no_bytes_in_a_journal():
+    """The drop is told with them, and a run goes on from the journal with the calls that it has."""
+    with Room() as room:
+        words = ["listen", "--local", free_address(), "--drops", "--journal", room.journal]
+        with Peer(words[2]) as peer:
+            with Running(*words) as listener:
+                listener.ready()
+                peer.ask("INVITE", "c1")
+                tag = answered(peer, "c1")
+                listener.output.next("notice c1 ack ")
+                before = len(read(room.journal))
+                for number in range(20):
+                    peer.send(f"{number} " + 1000 * "x")
+                listener.output.next("drop ", f" NoEmptyLine datagram {peer.address} 19 xxx")
+                dropped = read(room.journal)[before:]
+            expect("their bytes", False, "xxx" in dropped)
+            expect("their events", 20, dropped.splitlines().count(f"datagram {peer.address} "))
+            with Running(*words) as listener:
+                listener.ready()
+                peer.ask("BYE", "c1", 2, tag)
+                peer.receive("SIP/2.0 200 ", "CSeq: 2 BYE\r\n")
+
+
+@test
 def a_journal_that_lacks_rounds_is_not_resumed():
     """The next process begins anew, and so gives other tags."""
     with Room() as room:
@@ -120,6 +144,19 @@ def a_journal_that_lacks_rounds_is_not_resumed():
                 listener.end_input()
                 expect("resumed", False, "resumed" in listener.ended().output)
         expect("another seed", False, seed_of(written) == seed_of(read(room.journal)))
+
+
+@test
+def a_round_that_is_too_long_for_a_journal_is_a_failed_write():
+    """That of a command with over 64 MiB of header lines."""
+    headers = 70 * (" X-Long: " + 1_000_000 * "x" + "\n")
+    with Room() as room, bound() as silent:
+        words = ["agent", "--local", ANY, "--headers", "--journal", room.journal,
+                 "--journal-may-fail", "--linger", "0"]
+        ended = ran(*words, text=headers + plain(address_of(silent), "c1", "OPTIONS") + "\n")
+        expect("its end", True, set_aside(room.journal) in ended.errors)
+        expect("FILE", False, room.journal.exists())
+        expect("FILE.failed", True, failed(room.journal).exists())
 
 
 def failed(journal):
@@ -257,7 +294,6 @@ def calls_that_ring_are_answered_wherever_a_journal_ends():
             for number in range(calls):
                 peer.ask("INVITE", f"c{number}")
             listener.process.send_signal(signal.SIGCONT)
-            peer.receive("SIP/2.0 200 ", f"Call-ID: c{calls - 1}\r\n")
             expect("status", 0, listener.ended().status)
         head, *rounds = read(room.journal).split("\nround ")
         expect("a full round", True, any(it.count("datagram ") == 63 for it in rounds))

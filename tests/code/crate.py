@@ -9,7 +9,7 @@ HERE = Path(__file__).resolve().parent
 TOP = HERE.parent.parent
 NAME = "test_code"
 # What the crate stands on, as crates.txt has it.
-USES = ("sip_udp sip_agents sip_host sip_compaction sip_files sip_round sip_calls sip_served "
+USES = ("sip_udp sip_agents sip_host sip_stream sip_files sip_round sip_calls sip_served "
         "sip_user sip_transactions sip_reader sip_dialog sip_message sip_desk sip_workers "
         "sip_reliable sip_timers sip_text thiserror")
 

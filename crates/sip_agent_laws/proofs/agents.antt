@@ -13,6 +13,11 @@ pub mod Linked
 pub mod Apart
 pub mod LinkedRounds
 pub mod OpenHeld
+pub mod Going
+pub mod OneUp
+pub mod EndTold
+pub mod EachOutcome
+pub mod OneOutcome
 pub mod Idle
 pub mod RestFrom
 pub mod NothingLeft

@@ -9,11 +9,13 @@ pub mod EachItem
 pub mod Ended
 pub mod Fewer
 pub mod InTime
+pub mod OneTold
 pub mod OnlyTicks
 pub mod Outcomes
 pub mod Rejected
 pub mod ServedBounds
 pub mod ServedSteps
 pub mod ServerOuts
+pub mod Successes
 pub mod Told
 pub mod Waits

@@ -1,4 +1,5 @@
 pub mod AtRest
 pub mod NothingLeft
 pub mod Open
+pub mod Outcomes
 pub mod UserEnds

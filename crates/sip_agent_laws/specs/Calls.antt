@@ -5,5 +5,6 @@ pub mod InTime
 pub mod Outcomes
 pub mod Rejections
 pub mod Rest
+pub mod Successes
 pub mod Told
 pub mod Waiting

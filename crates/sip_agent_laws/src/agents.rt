@@ -3,6 +3,7 @@
 ghost use Rattle.sip_agent_laws.specs.Agents.AtRest.{EachAgentComesToRest, EachCallComesToRest};
 ghost use Rattle.sip_agent_laws.specs.Agents.NothingLeft.{NoTransactionStays, NothingStays};
 ghost use Rattle.sip_agent_laws.specs.Agents.Open.{EachOpenIsHeld};
+ghost use Rattle.sip_agent_laws.specs.Agents.Outcomes.{AtMostOneIsTold, EachRequestHasOneOutcome};
 ghost use Rattle.sip_agent_laws.specs.Agents.UserEnds.{UserEndsAgent, UserEndsTransactions};
 
 /// After any rounds, each server transaction, and each client of an INVITE, that has no final
@@ -41,4 +42,13 @@ pub fn nothing_stays()
 pub fn the_user_ends_all()
     ensures transactions { UserEndsTransactions }
     ensures all { UserEndsAgent }
+{}
+
+/// Of a request other than INVITE that the agent sends for a command of its application, the
+/// application is told of at most one outcome: a final response, a timeout, or that it couldn't be
+/// sent. It is told of one by the first round 64*T1 later, unless it gives the request up (RFC
+/// 3261, sections 8.1.3.1 and 17.1.2.2).
+pub fn each_request_has_one_outcome()
+    ensures most { AtMostOneIsTold }
+    ensures one { EachRequestHasOneOutcome }
 {}

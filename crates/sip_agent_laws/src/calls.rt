@@ -8,6 +8,7 @@ ghost use Rattle.sip_agent_laws.specs.Calls.InTime.{ClientsRemoved, NoAckTold, N
 ghost use Rattle.sip_agent_laws.specs.Calls.Outcomes.{CancelGoesOut, CancelWaits, OutcomeCloses, WaitingGoesOut};
 ghost use Rattle.sip_agent_laws.specs.Calls.Rejections.{RejectionsAreAccepted};
 ghost use Rattle.sip_agent_laws.specs.Calls.Rest.{AtRestAfterAll, NothingLeft};
+ghost use Rattle.sip_agent_laws.specs.Calls.Successes.{FirstSuccessIsAcknowledged};
 ghost use Rattle.sip_agent_laws.specs.Calls.Told.{ItemsOnlyAnswer, TicksOnlyAnswer, ToldAsTheyCome, ToldOnce};
 
 /// Whatever is held under a Call-ID: a plain response of 300 to 699 to a held request of the peer
@@ -113,4 +114,12 @@ pub fn a_cancel_goes_out()
     ensures asked { CancelGoesOut }
     ensures waits { CancelWaits }
     ensures waiting { WaitingGoesOut }
+{}
+
+/// Whatever is held under a Call-ID: the first 2xx of a dialog to an INVITE that is held is told,
+/// once (to a re-INVITE, if its dialog is held). If it has an offer, its ACK waits for the
+/// application. If not, the ACK goes out, or the agent refuses to send it, tells why, and it waits
+/// (RFC 3261, sections 13.2.1 and 13.2.2.4).
+pub fn a_success_is_acknowledged()
+    ensures { FirstSuccessIsAcknowledged }
 {}

@@ -1,3 +1,4 @@
 pub mod Destination
 pub mod Laws
+pub mod Steps
 pub mod Stripes

@@ -21,7 +21,8 @@ pub enum Destination {
 /// for the agent of its Call-ID, and so is a datagram; one without a Call-ID is for the first
 /// agent. A failed send is for all: nothing but its transaction heeds it.
 ///
-/// Of a datagram it reads the header lines alone.
+/// Of a datagram it reads the header lines alone, up to the Call-ID. It takes memory only where a
+/// line that may be the Call-ID is folded.
 ///
 /// # Errors
 ///

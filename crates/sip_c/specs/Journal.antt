@@ -6,8 +6,8 @@ use Rattle.sip_host.specs.Resuming.{text_of_round}
 use Rattle.sip_host.specs.declared.host.Host.{Host}
 use Rattle.sip_host.specs.declared.resume_fault.ResumeFault.{ResumeFault}
 use Rattle.sip_host.specs.declared.resume_fault.ResumeFault.TheVariants.{Busy, Lines, Round}
-use Rattle.sip_journal.specs.declared.lines_fault.LinesFault.{LinesFault}
-use Rattle.sip_journal.specs.declared.lines_fault.LinesFault.TheVariants as lines
+use Rattle.sip_files.specs.declared.lines_fault.LinesFault.{LinesFault}
+use Rattle.sip_files.specs.declared.lines_fault.LinesFault.TheVariants as lines
 use Rattle.sip_c.specs.Status.{number_of_round, room_answer}
 use Rattle.sip_c.specs.declared.values.Resumed.{Resumed}
 

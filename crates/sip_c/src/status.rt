@@ -4,8 +4,8 @@ ghost use Rattle.std.specs.Prelude.{◌≡◌};
 ghost use Rattle.sip_c.specs.Journal as journal;
 ghost use Rattle.sip_c.specs.Status as spec;
 
+use sip_files::LinesFault;
 use sip_host::{Field, HostFault, ResumeFault};
-use sip_journal::LinesFault;
 use sip_round::RoundFault;
 
 pub(crate) const OK: u32 = 0;

@@ -6,11 +6,11 @@ ghost use Rattle.sip_c.specs.Called as spec;
 ghost use Rattle.sip_c.specs.Journal as journal;
 
 use crate::status::number_of_field;
+use sip_files::LinesFault;
 use sip_host::{
     AddressLength, Holdings, HostFault, LineLength, NextOutput, RequestTraits as HostTraits,
     ResumeFault, StartLength,
 };
-use sip_journal::LinesFault;
 use sip_message::{Addr, Id};
 use sip_round::Config;
 use sip_user::{ProvisionalSupport, Reliability};

@@ -94,11 +94,14 @@ kept_dialogs now clients calm (entry ∷ dialogs) =
     kept_step (ends_early_at now clients entry.1) entry dialogs (dialogs_left now dialogs clients)
     (none_ends now entry.1 (values_of clients) calm) (kept_dialogs now clients calm dialogs)
 
-pub clients_quiet_before : (side : Side) (now : ℕ) → is_due now (next_removal side.clients) ≡ false
+pub clients_quiet : (side : Side) (now : ℕ) → list_any (is_over now) (values_of side.clients) ≡ false
     → clients_ticked side now ≡ nothing_done side
-clients_quiet_before side now calm =
-    let none = none_over now side.clients calm in
+clients_quiet side now none =
     let dialogs = kept_dialogs now side.clients none side.dialogs in
     let clients = kept_clients now side.clients none in
     let outs = silent now side.dialogs (values_of side.clients) none in
     λ i. (record { dialogs = dialogs i; clients = clients i }, outs i)
+
+pub clients_quiet_before : (side : Side) (now : ℕ) → is_due now (next_removal side.clients) ≡ false
+    → clients_ticked side now ≡ nothing_done side
+clients_quiet_before side now calm = clients_quiet side now (none_over now side.clients calm)

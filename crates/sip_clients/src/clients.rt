@@ -17,7 +17,7 @@ use crate::held::{ClientMap, fail_request, note_ack, settle, start, take_respons
 use crate::outputs::ClientChange;
 use crate::outside::{invite_of, plain_of};
 use crate::pending::PendingKind;
-use crate::tick::{drop_clients, drop_dialogs, next_due, over_notices};
+use crate::tick::{drop_clients, drop_dialogs, is_any_over, next_due, over_notices};
 use indexmap::IndexMap;
 use sip_held_dialogs::{DialogId, Dialogs, PendingRequest};
 use sip_message::{CallId, Id, Message};
@@ -94,6 +94,10 @@ impl Clients {
             now) }
         ensures err { OnErr result (self.new ≡ []) }
     {
+        // Most ticks are for the server side: they look at no dialog.
+        if !is_any_over(&self.requests, now) {
+            return Ok(Vec::new(self.alloc));
+        }
         let mut requests = self.take();
         let outs = over_notices(self.alloc, dialogs, &requests, now)?;
         drop_dialogs(dialogs, &requests, now);

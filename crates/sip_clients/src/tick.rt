@@ -1,6 +1,8 @@
 //! A tick: the INVITEs that are removed, and the end of their dialogs that are still early.
 
 ghost use Rattle.std.specs.Prelude.{◌≡◌, IfOk, not};
+ghost use Rattle.std.specs.List.{list_any};
+ghost use Rattle.std.specs.Map.{values_of};
 ghost use Rattle.sip_clients.specs.Tick as spec;
 
 use crate::client::Client;
@@ -16,6 +18,17 @@ fn is_over(client: &Client, now: u64) -> bool
     ensures { result ≡ spec.is_over now client.now }
 {
     client.removal.is_some_and(|moment| moment <= now)
+}
+
+/// Whether some INVITE is due to be removed.
+pub(crate) fn is_any_over(clients: &ClientMap, now: u64) -> bool
+    ensures { result ≡ list_any (spec.is_over now) (values_of clients.now.entries) }
+{
+    clients
+        .values()
+        .as_slice()
+        .iter()
+        .any(|client| is_over(client, now))
 }
 
 /// The notices of the dialogs that end.

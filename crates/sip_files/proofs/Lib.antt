@@ -28,3 +28,5 @@ pub mod SessionLaws
 pub mod WrittenHeaders
 pub mod WrittenSessions
 mod OneEvent
+pub mod FirstRound
+pub mod HeadLines

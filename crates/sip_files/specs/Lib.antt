@@ -10,3 +10,4 @@ pub mod Steps
 pub mod Unregister
 pub mod Word
 pub mod Written
+pub mod Rounds

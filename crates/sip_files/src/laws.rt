@@ -9,7 +9,8 @@ ghost use Rattle.sip_round.specs.declared.config.Config.{Config};
 ghost use Rattle.sip_round.specs.declared.round.Round.{Round};
 ghost use Rattle.sip_files.specs.EventFile.{IsOneLine, SpellsEvents, SpellsIn, SpellsSession, file_text};
 ghost use Rattle.sip_files.specs.Events.{AreAlike, SpellsLine};
-ghost use Rattle.sip_files.specs.Written.{IsConfig, IsRound, IsSessionRound, events_text, session_text};
+ghost use Rattle.sip_files.specs.Rounds.{SpellsRound, SpellsRounds};
+ghost use Rattle.sip_files.specs.Written.{IsConfig, IsRound, IsSessionRound, events_text, session_round_text, session_text};
 ghost use Rattle.std.specs.List.{AllByRecursion, starts_with};
 
 /// Two different texts have different words.
@@ -79,4 +80,16 @@ pub fn what_is_written_is_a_session()
     ensures { (config : Config) (rounds : List Round) → IsConfig config
         → AllByRecursion IsSessionRound rounds
         → SpellsSession config rounds (session_text config rounds) }
+{}
+
+/// The same lines say one list of rounds.
+pub fn one_meaning_of_lines()
+    ensures { (lines : List ℕ) (rounds others : List Round) → SpellsRounds lines rounds
+        → SpellsRounds lines others → rounds ≡ others }
+{}
+
+/// What is written for a round are its lines, if a session may have each of them.
+pub fn what_is_written_are_the_lines_of_a_round()
+    ensures { (round : Round) → IsSessionRound round
+        → SpellsRound (session_round_text round) round }
 {}

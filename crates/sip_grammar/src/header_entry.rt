@@ -101,24 +101,12 @@ impl HeaderName {
     fn of_exact_name(name: &[u8]) -> Option<HeaderName>
         ensures { IfSome result (λ header. name.now ≡ (table.entry header).name) }
     {
-        let header = match name {
-            b"Via" => HeaderName::Via,
-            b"From" => HeaderName::From,
-            b"To" => HeaderName::To,
-            b"Call-ID" => HeaderName::CallId,
-            b"CSeq" => HeaderName::CSeq,
-            b"Contact" => HeaderName::Contact,
-            b"Max-Forwards" => HeaderName::MaxForwards,
-            b"RSeq" => HeaderName::RSeq,
-            b"RAck" => HeaderName::RAck,
-            b"Route" => HeaderName::Route,
-            b"Record-Route" => HeaderName::RecordRoute,
-            b"Require" => HeaderName::Require,
-            b"Supported" => HeaderName::Supported,
-            b"Content-Length" => HeaderName::ContentLength,
-            _ => return None,
-        };
-        Some(header)
+        for header in HeaderName::of_length(name.len()) {
+            if header.entry().name.as_bytes() == name {
+                return Some(*header);
+            }
+        }
+        None
     }
 
     // Rare: most names are written as they are in the table.

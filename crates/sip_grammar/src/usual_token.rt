@@ -28,24 +28,36 @@ impl UsualToken {
     pub(crate) fn of(text: &[u8]) -> Option<UsualToken>
         ensures { IfSome result (λ usual. bytes_of usual ≡ text.now) }
     {
-        match text {
-            b"UDP" => Some(UsualToken::Udp),
-            b"tag" => Some(UsualToken::Tag),
-            b"ACK" => Some(UsualToken::Ack),
-            b"BYE" => Some(UsualToken::Bye),
-            b"TCP" => Some(UsualToken::Tcp),
-            b"TLS" => Some(UsualToken::Tls),
-            b"INFO" => Some(UsualToken::Info),
-            b"rport" => Some(UsualToken::Rport),
-            b"PRACK" => Some(UsualToken::Prack),
-            b"timer" => Some(UsualToken::Timer),
-            b"branch" => Some(UsualToken::Branch),
-            b"INVITE" => Some(UsualToken::Invite),
-            b"CANCEL" => Some(UsualToken::Cancel),
-            b"100rel" => Some(UsualToken::Reliable),
-            b"OPTIONS" => Some(UsualToken::Options),
-            b"received" => Some(UsualToken::Received),
-            _ => None,
+        for usual in UsualToken::of_length(text.len()) {
+            if usual.as_slice() == text {
+                return Some(*usual);
+            }
+        }
+        None
+    }
+
+    // Those of so many bytes.
+    fn of_length(bytes: usize) -> &'static [UsualToken] {
+        match bytes {
+            3 => &[
+                UsualToken::Udp,
+                UsualToken::Tag,
+                UsualToken::Ack,
+                UsualToken::Bye,
+                UsualToken::Tcp,
+                UsualToken::Tls,
+            ],
+            4 => &[UsualToken::Info],
+            5 => &[UsualToken::Rport, UsualToken::Prack, UsualToken::Timer],
+            6 => &[
+                UsualToken::Branch,
+                UsualToken::Invite,
+                UsualToken::Cancel,
+                UsualToken::Reliable,
+            ],
+            7 => &[UsualToken::Options],
+            8 => &[UsualToken::Received],
+            _ => &[],
         }
     }
 

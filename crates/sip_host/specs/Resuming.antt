@@ -5,8 +5,8 @@ use Rattle.sip_host.specs.Hosting.{shard_of}
 use Rattle.sip_host.specs.declared.host.Host.{Host}
 use Rattle.sip_host.specs.declared.resume_fault.ResumeFault.{ResumeFault}
 use Rattle.sip_host.specs.declared.resume_fault.ResumeFault.TheVariants as resume_fault
-use Rattle.sip_journal.specs.Rounds.{SpellsRound, TellsLinesFault, first_round}
-use Rattle.sip_journal.specs.declared.lines_fault.LinesFault.{LinesFault}
+use Rattle.sip_files.specs.Rounds.{SpellsRound, TellsLinesFault, first_round}
+use Rattle.sip_files.specs.declared.lines_fault.LinesFault.{LinesFault}
 use Rattle.sip_round.specs.AgentState.{refusal_of}
 use Rattle.sip_round.specs.Answers.{StandsFor}
 use Rattle.sip_round.specs.declared.config.Config.{Config}

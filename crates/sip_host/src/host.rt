@@ -23,7 +23,7 @@ ghost use Rattle.sip_host.specs.Hosting.{Begins, BeginsAt, HasLinesAt, HasValues
 ghost use Rattle.sip_files.specs.Written.{IsSessionRound};
 ghost use Rattle.sip_host.specs.Traits.{TellsTraitsAt};
 ghost use Rattle.sip_host.specs.Resuming.{GoesOn, Resumes, is_idle, text_of_round};
-ghost use Rattle.sip_journal.specs.Rounds.{SpellsRound};
+ghost use Rattle.sip_files.specs.Rounds.{SpellsRound};
 ghost use Rattle.sip_round.specs.AgentState.{refusal_of};
 ghost use Rattle.sip_round.specs.declared.round_fault.RoundFault.TheVariants as round_fault;
 ghost use Rattle.sip_host.specs.declared.field.Field.TheVariants as field;
@@ -42,11 +42,11 @@ use crate::next_output::NextOutput;
 use crate::request_traits::{self, RequestTraits};
 use crate::resume_fault::ResumeFault;
 use crate::start_length::StartLength;
+use sip_files::laws::what_is_written_are_the_lines_of_a_round;
 use sip_files::{
-    FileKind, GivenHeader, read_event_line, read_event_lines, with_given, write_file_round,
+    FileKind, GivenHeader, first_round_of, read_event_line, read_event_lines, read_round,
+    with_given, write_file_round,
 };
-use sip_journal::laws::what_is_written_are_the_lines_of_a_round;
-use sip_journal::{first_round_of, read_round};
 use sip_message::{Addr, Id, ReadFault, Spread, Token};
 use sip_reader::{FirstLine, HeaderLine, header_lines, header_values, read, start_line};
 use sip_round::{

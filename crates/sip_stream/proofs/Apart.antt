@@ -17,7 +17,7 @@ use Rattle.sip_files.specs.declared.version.Version.{Version}
 use Rattle.sip_files.specs.declared.version.Version.TheVariants.{One, Two, SessionOne}
 use Rattle.sip_files.proofs.FileLines.{version_no, with_end}
 use Rattle.sip_files.proofs.LineEnds.{line_no}
-use Rattle.sip_journal.specs.Rounds.{begins_round, first_round}
+use Rattle.sip_files.specs.Rounds.{begins_round, first_round}
 use Rattle.sip_round.specs.declared.config.Config.{Config}
 use Rattle.sip_round.specs.declared.round.Event.{Event}
 use Rattle.sip_round.specs.declared.round.Event.TheVariants.{Command, Datagram, Failed}

@@ -8,8 +8,8 @@ use Rattle.sip_files.specs.declared.version.FileKind.{FileKind}
 use Rattle.sip_files.specs.declared.version.Version.{Version}
 use Rattle.sip_files.proofs.FileLines.{AllOne, each_one, longer, same_line, version_no, with_end}
 use Rattle.sip_files.proofs.WrittenLaws.{head_is, head_spelled, whole_head}
-use Rattle.sip_journal.specs.Rounds.{some_config}
-use Rattle.sip_journal.proofs.HeadLines.{is_config}
+use Rattle.sip_files.specs.Rounds.{some_config}
+use Rattle.sip_files.proofs.HeadLines.{is_config}
 use Rattle.sip_stream.specs.Streams.{behind_head}
 use Rattle.sip_stream.proofs.Heads.{in_parts, others}
 use Rattle.sip_stream.proofs.Only.{head_alone}

@@ -2,7 +2,7 @@
 use Rattle.std.proofs.Common.{◌≡◌, ℕ, zero, suc, ◌+◌, ◌<◌, ◌≤◌, Bool, true, false, List, [], ◌∷◌, ◌++◌, length, take, refl, sym, ap, ◌∙◌, arith, codes, inl, inr}
 use Rattle.std.specs.Prelude.{◌&&◌, ◌==◌, if◌then◌else◌, nat_eq}
 use Rattle.std.specs.List.{starts_with}
-use Rattle.sip_journal.specs.Rounds.{begins_round, first_round}
+use Rattle.sip_files.specs.Rounds.{begins_round, first_round}
 use Rattle.sip_stream.specs.Streams.{IsRounds}
 
 -- ---- it is a front of the text

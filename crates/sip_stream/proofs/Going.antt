@@ -13,7 +13,7 @@ use Rattle.sip_files.specs.declared.version.FileKind.{FileKind}
 use Rattle.sip_files.specs.declared.version.Version.{Version}
 use Rattle.sip_files.proofs.FileLines.{first_line}
 use Rattle.sip_files.proofs.Streams.{counts_both, counts_none}
-use Rattle.sip_journal.specs.Rounds.{first_round, some_config}
+use Rattle.sip_files.specs.Rounds.{first_round, some_config}
 use Rattle.sip_round.specs.AgentState.{AgentState}
 use Rattle.sip_round.specs.Answers.{StandsFor}
 use Rattle.sip_round.specs.declared.config.Config.{Config}

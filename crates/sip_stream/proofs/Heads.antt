@@ -10,7 +10,7 @@ use Rattle.sip_files.specs.declared.version.Version.{Version}
 use Rattle.sip_files.specs.declared.version.Version.TheVariants.{Two}
 use Rattle.sip_files.proofs.FileLines.{version_no}
 use Rattle.sip_files.proofs.WrittenLaws.{head_is, text_of, whole_head}
-use Rattle.sip_journal.specs.Rounds.{some_config}
+use Rattle.sip_files.specs.Rounds.{some_config}
 
 pub others : List ℕ
 others = text_of (head_lines (whole_head some_config))

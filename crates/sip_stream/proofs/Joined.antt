@@ -22,8 +22,8 @@ use Rattle.sip_files.proofs.CommandLines.{mapped}
 use Rattle.sip_files.proofs.FileLines.{each_one, in_version, same_front}
 use Rattle.sip_files.proofs.OneFile.{after_version, further_of, lines_of}
 use Rattle.sip_files.proofs.WrittenLaws.{head_is, head_spelled, whole_head}
-use Rattle.sip_journal.specs.Rounds.{some_config}
-use Rattle.sip_journal.proofs.HeadLines.{is_config}
+use Rattle.sip_files.specs.Rounds.{some_config}
+use Rattle.sip_files.proofs.HeadLines.{is_config}
 
 pub zip_append : {A B : Type 0} (P : A → B → Type 0) (xs others : List A) (ys more : List B)
     → AllZip P xs ys → AllZip P others more → AllZip P (xs ++ others) (ys ++ more)

@@ -8,3 +8,4 @@ pub mod OneRound
 pub mod Only
 pub mod Reading
 pub mod Written
+pub mod Carried

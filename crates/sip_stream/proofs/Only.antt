@@ -16,10 +16,10 @@ use Rattle.sip_files.proofs.FileFaults.{never_bad}
 use Rattle.sip_files.proofs.FileLines.{first_line, in_version, same_line, version_no, with_end}
 use Rattle.sip_files.proofs.OneFile.{one_file}
 use Rattle.sip_files.proofs.WrittenLaws.{head_is, head_spelled, unheaded, unheaded_lines, unheaded_made, whole_head}
-use Rattle.sip_journal.specs.Rounds.{begins_round, first_round, some_config}
-use Rattle.sip_journal.specs.declared.lines_fault.LinesFault.{LinesFault}
-use Rattle.sip_journal.specs.declared.lines_fault.LinesFault.TheVariants as lines_fault
-use Rattle.sip_journal.proofs.HeadLines.{is_config}
+use Rattle.sip_files.specs.Rounds.{begins_round, first_round, some_config}
+use Rattle.sip_files.specs.declared.lines_fault.LinesFault.{LinesFault}
+use Rattle.sip_files.specs.declared.lines_fault.LinesFault.TheVariants as lines_fault
+use Rattle.sip_files.proofs.HeadLines.{is_config}
 use Rattle.sip_round.specs.AgentState.{round_fault}
 use Rattle.sip_round.specs.Answers.{refused, refused_from, refused_or}
 use Rattle.sip_round.specs.declared.config.Config.{Config}

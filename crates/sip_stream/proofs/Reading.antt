@@ -5,7 +5,7 @@ use Rattle.std.specs.Io.KnownBytes.{Consumes, IsAtEnd, Keeps, prepend_known}
 use Rattle.std.proofs.lemmas.List.{drop_all, take_all}
 use Rattle.sip_files.specs.Counted.{Counts, failures_of}
 use Rattle.sip_files.proofs.Streams.{counts_both}
-use Rattle.sip_journal.specs.Rounds.{first_round}
+use Rattle.sip_files.specs.Rounds.{first_round}
 use Rattle.sip_stream.specs.Streams.{IsNext}
 use Rattle.sip_stream.proofs.Chunks.{front_of, is_front, no_longer, same_first}
 

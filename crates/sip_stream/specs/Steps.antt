@@ -8,7 +8,7 @@ use Rattle.sip_files.specs.Written.{head_in}
 use Rattle.sip_files.specs.declared.events_fault.EventsFault.TheVariants as events_fault
 use Rattle.sip_files.specs.declared.version.FileKind.{FileKind}
 use Rattle.sip_files.specs.declared.version.Version.{Version}
-use Rattle.sip_journal.specs.Rounds.{some_config}
+use Rattle.sip_files.specs.Rounds.{some_config}
 use Rattle.sip_round.specs.AgentState.{AgentState}
 use Rattle.sip_round.specs.Answers.{StandsFor, refused}
 use Rattle.sip_round.specs.declared.config.Config.{Config}

@@ -8,9 +8,9 @@ use Rattle.sip_files.specs.declared.events_fault.EventsFault.{EventsFault}
 use Rattle.sip_files.specs.declared.events_fault.EventsFault.TheVariants as events_fault
 use Rattle.sip_files.specs.declared.version.FileKind.{FileKind}
 use Rattle.sip_files.specs.declared.version.Version.{Version}
-use Rattle.sip_journal.specs.Rounds.{begins_round, first_round, some_config}
-use Rattle.sip_journal.specs.declared.lines_fault.LinesFault.{LinesFault}
-use Rattle.sip_journal.specs.declared.lines_fault.LinesFault.TheVariants as lines_fault
+use Rattle.sip_files.specs.Rounds.{begins_round, first_round, some_config}
+use Rattle.sip_files.specs.declared.lines_fault.LinesFault.{LinesFault}
+use Rattle.sip_files.specs.declared.lines_fault.LinesFault.TheVariants as lines_fault
 use Rattle.sip_round.specs.AgentState.{AgentState}
 use Rattle.sip_round.specs.Answers.{StandsFor, refused}
 use Rattle.sip_round.specs.declared.config.Config.{Config}

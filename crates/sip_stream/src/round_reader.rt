@@ -7,8 +7,7 @@ ghost use Rattle.sip_stream.specs.Streams.{IsNext, input_failures};
 ghost use Rattle.sip_stream.specs.declared.stream_fault.StreamFault.TheVariants as stream_fault;
 
 use crate::stream_fault::StreamFault;
-use sip_files::{CountedRead, MAX_EVENTS};
-use sip_journal::first_round_of;
+use sip_files::{CountedRead, MAX_EVENTS, first_round_of};
 use std::alloc::Global;
 use std::mem;
 
@@ -42,7 +41,7 @@ impl RoundReader {
     ///
     /// # Errors
     ///
-    /// `Input` or `NoMemory`.
+    /// `Input` or `NoMemory`. What was read may be lost then: begin anew.
     pub fn next_lines<R: CountedRead>(&mut self, reader: &mut R) -> Result<Vec<u8>, StreamFault>
         ensures given { IfOk result (λ lines.
             Consumes (prepend_known self.old.text.items (R.remaining reader.old))

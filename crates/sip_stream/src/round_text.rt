@@ -5,14 +5,13 @@ ghost use Rattle.sip_files.specs.EventFile.{SpellsFile, TellsFault, version_line
 ghost use Rattle.sip_files.specs.Written.{head_in};
 ghost use Rattle.sip_files.specs.declared.version.FileKind.{FileKind};
 ghost use Rattle.sip_files.specs.declared.version.Version.{Version};
-ghost use Rattle.sip_journal.specs.Rounds.{some_config};
+ghost use Rattle.sip_files.specs.Rounds.{some_config};
 ghost use Rattle.sip_round.specs.declared.config.Config.{Config as AConfig};
 ghost use Rattle.sip_stream.specs.Steps.{TellsRound};
 ghost use Rattle.sip_stream.specs.Streams.{behind_head};
 
 use crate::stream_fault::StreamFault;
-use sip_files::{EventsFault, FileKind, read_file, write_file_head};
-use sip_journal::LinesFault;
+use sip_files::{EventsFault, FileKind, LinesFault, read_file, write_file_head};
 use sip_message::Addr;
 use sip_round::{Config, Round};
 use sip_text::{Series, cut};

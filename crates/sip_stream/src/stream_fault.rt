@@ -2,8 +2,7 @@
 
 ghost use Rattle.std.specs.Prelude.{◌≡◌};
 
-use sip_files::EventsFault;
-use sip_journal::LinesFault;
+use sip_files::{EventsFault, LinesFault};
 use sip_round::RoundFault;
 use std::alloc::AllocError;
 use thiserror::Error;

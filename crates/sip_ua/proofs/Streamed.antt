@@ -4,8 +4,8 @@ use Rattle.std.specs.Prelude.{IfErr, MatchResult, Result, Ok, Err}
 use Rattle.sip_files.specs.declared.version.FileKind.{FileKind}
 use Rattle.sip_files.specs.declared.events_fault.EventsFault.{EventsFault}
 use Rattle.sip_files.specs.declared.events_fault.EventsFault.TheVariants as events_fault
-use Rattle.sip_journal.specs.declared.lines_fault.LinesFault.{LinesFault}
-use Rattle.sip_journal.specs.declared.lines_fault.LinesFault.TheVariants as lines_fault
+use Rattle.sip_files.specs.declared.lines_fault.LinesFault.{LinesFault}
+use Rattle.sip_files.specs.declared.lines_fault.LinesFault.TheVariants as lines_fault
 use Rattle.sip_round.specs.declared.config.Config.{Config}
 use Rattle.sip_round.specs.declared.round.Round.{Round}
 use Rattle.sip_round.specs.declared.round_fault.RoundFault.{RoundFault}

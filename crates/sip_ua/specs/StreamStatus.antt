@@ -1,8 +1,8 @@
 -- The status of the program if a replay round by round stops, and what it tells of the input.
 use Rattle.std.specs.Prelude.{◌≡◌, ℕ, List}
 use Rattle.sip_files.specs.declared.version.FileKind.{FileKind}
-use Rattle.sip_journal.specs.declared.lines_fault.LinesFault.{LinesFault}
-use Rattle.sip_journal.specs.declared.lines_fault.LinesFault.TheVariants as lines_fault
+use Rattle.sip_files.specs.declared.lines_fault.LinesFault.{LinesFault}
+use Rattle.sip_files.specs.declared.lines_fault.LinesFault.TheVariants as lines_fault
 use Rattle.sip_stream.specs.Streams.{TellsStream}
 use Rattle.sip_stream.specs.declared.stream_fault.StreamFault.{StreamFault}
 use Rattle.sip_stream.specs.declared.stream_fault.StreamFault.TheVariants.{Input, Head, Lines, Round, Output, NoMemory}

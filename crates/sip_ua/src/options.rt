@@ -385,7 +385,9 @@ const WORKERS: OptionRow = OptionRow {
     parser: ValueParser::Unsigned(1, MAX_WORKERS as u64),
     value: &["N"],
     default: &["1"],
-    help: "Work on the shards with at most N threads, from 1 to 64; with 1 no thread is started",
+    help: "Work on the shards with at most N threads, from 1 to 64; with 1 no thread is started. \
+        They start anew in each round, which pays in rounds of thousands of events: for many \
+        calls use `listen --agents`",
     ..TEXT
 };
 

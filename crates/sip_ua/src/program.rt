@@ -1,17 +1,16 @@
 //! The program: what each command does.
 
-ghost use Rattle.std.specs.Prelude.{◌≡◌, ◌≢◌, ◌⊎◌, ◌<◌, ◌≤◌, ◌^◌, Err, IfErr, IfSome, IsFalse, IsTrue, List, MatchResult, OnErr, OnOk, length, map};
+ghost use Rattle.std.specs.Prelude.{◌≡◌, ◌≢◌, ◌⊎◌, ◌<◌, ◌≤◌, ◌^◌, Err, IfErr, IfSome, IsFalse, IsTrue, List, OnOk, length, map};
 ghost use Rattle.sip_files.specs.EventFile.{IsFile};
-ghost use Rattle.sip_files.specs.Replay.{TellsReplay, WritesAll, WritesFront};
+ghost use Rattle.sip_files.specs.Replay.{WritesAll, WritesFront};
 ghost use Rattle.sip_ua.specs.Inputs.{HasRefusedRound, IsNoFile};
-ghost use Rattle.sip_ua.specs.Status.{fault_status};
 ghost use Rattle.sip_ladder.specs.Drawing.{DrawsAll};
 ghost use Rattle.sip_ua.specs.Repair.{TellsRepair, replayed};
 ghost use Rattle.sip_ua.specs.StreamStatus.{TellsStatus};
 ghost use Rattle.sip_ua.specs.Words.{asks_help, asks_ladder, asks_repair, asks_replay, asks_stream, kind_asked};
 ghost use Rattle.sip_round.specs.declared.config.Config.{Config};
 ghost use Rattle.sip_round.specs.declared.round.Round.{Round};
-ghost use Rattle.sip_stream.specs.Streams.{ComesOnly, IsStream, StreamsAll, StreamsFront, TellsStream};
+ghost use Rattle.sip_stream.specs.Streams.{IsStream, StreamsAll, StreamsFront};
 ghost use Rattle.sip_files.specs.declared.file_replay.ReplayFault.TheVariants as replay_fault;
 
 use crate::cut_name::CutName;

@@ -360,6 +360,10 @@ impl<T: Journals + Drop> RecordFile for RunFile<T> {
         self.len = len;
         Ok(())
     }
+
+    fn lacks_round(&mut self) {
+        let _ = self.fail(io::Error::from(ErrorKind::InvalidInput));
+    }
 }
 
 // The folder of a file with this path, which begins with a slash.

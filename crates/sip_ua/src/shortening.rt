@@ -4,9 +4,8 @@ ghost use denote.Param.Send.{IsSync};
 
 use crate::host::{Access, Journals, open};
 use rtrb::{Consumer, Producer, RingBuffer};
-use sip_compaction::compact;
 use sip_message::Spread;
-use sip_stream::StreamFault;
+use sip_stream::{StreamFault, compact};
 use sip_udp::Bell;
 use std::alloc::Global;
 use std::fs::File;

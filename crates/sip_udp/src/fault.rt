@@ -2,7 +2,7 @@
 
 ghost use Rattle.std.specs.Prelude.{◌≡◌};
 
-use sip_journal::LinesFault;
+use sip_files::LinesFault;
 use sip_round::RoundFault;
 use std::alloc::AllocError;
 use thiserror::Error;

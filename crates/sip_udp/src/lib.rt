@@ -12,6 +12,7 @@ mod calling;
 mod counts;
 mod division;
 mod dropped;
+mod dropped_bytes;
 mod endpoint;
 mod fault;
 mod hang_up;
@@ -43,7 +44,7 @@ mod talk;
 mod time_limit;
 mod turns;
 mod user;
-mod waiting;
+mod waiting_headers;
 mod wrong_word;
 
 pub use admission::RequestLimits;

@@ -2,8 +2,7 @@
 
 use crate::fault::UaFault;
 use crate::record_file::RecordFile;
-use sip_files::{EventsFault, FileKind, read_file, write_file_head};
-use sip_journal::first_round_of;
+use sip_files::{EventsFault, FileKind, first_round_of, read_file, write_file_head};
 use sip_round::Config;
 use std::alloc::Global;
 

@@ -6,7 +6,7 @@ ghost use Rattle.sip_udp.specs.Piping as piping;
 use crate::listener::Flags;
 use crate::pipe_input::PipeLine;
 use crate::turns::MOST_COLLECTED;
-use crate::waiting::Waiting;
+use crate::waiting_headers::WaitingHeaders;
 use sip_desk::Desk;
 use sip_round::Event;
 use std::alloc::{AllocError, Global};
@@ -20,7 +20,7 @@ use std::sync::atomic::Ordering;
 pub(crate) struct Piped {
     pipe: Desk<PipeLine>,
     // The header lines that wait for their command.
-    waiting: Waiting,
+    waiting: WaitingHeaders,
     pub(crate) flags: Arc<Flags>,
     linger: u32,
     // The moment at which everything from the pipe had been taken.
@@ -36,7 +36,7 @@ impl Piped {
     ) -> Piped {
         Piped {
             pipe,
-            waiting: Waiting::new(alloc),
+            waiting: WaitingHeaders::new(alloc),
             flags,
             linger,
             ended_at: None,
@@ -84,7 +84,7 @@ impl Piped {
 fn ask_for<E: Write>(
     alloc: Global,
     lines: Vec<PipeLine>,
-    waiting: &mut Waiting,
+    waiting: &mut WaitingHeaders,
     events: &mut Vec<Event>,
     errors: &mut E,
 ) -> Result<(), AllocError>

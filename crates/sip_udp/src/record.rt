@@ -9,8 +9,7 @@ use crate::fault::UaFault;
 use crate::notices::put;
 use crate::past::Past;
 use crate::record_file::RecordFile;
-use sip_files::{FileKind, MAX_EVENTS, write_file_head, write_file_round};
-use sip_journal::{LinesFault, read_round};
+use sip_files::{FileKind, LinesFault, MAX_EVENTS, read_round, write_file_head, write_file_round};
 use sip_round::{Config, Round};
 use std::alloc::Global;
 use std::fmt::Display;
@@ -165,6 +164,9 @@ impl<F: RecordFile> Record<F> {
         if self.file.is_some() {
             let text = write_file_round(alloc, self.kind, round)?;
             if self.is_journal && text.len() > MAX_LINES {
+                if let Some(file) = &mut self.file {
+                    file.lacks_round();
+                }
                 return self.give_up(&"round too long", errors);
             }
             self.write(&text, errors)?;

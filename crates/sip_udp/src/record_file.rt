@@ -21,6 +21,10 @@ pub trait RecordFile: Write + Drop {
     fn cut(&mut self, _len: u64) -> io::Result<()> {
         Err(io::Error::from(ErrorKind::Unsupported))
     }
+
+    /// A round can't be written to it. If the run goes on all the same, no process may go on from
+    /// this file: it would give the same tags again.
+    fn lacks_round(&mut self) {}
 }
 
 impl RecordFile for Vec<u8> {}

@@ -8,6 +8,7 @@ ghost use Rattle.sip_udp.specs.Sending.{SendsAll};
 use crate::bell::Bell;
 use crate::counts::Tally;
 use crate::division::Division;
+use crate::dropped_bytes::{put_back, take_dropped};
 use crate::endpoint::Endpoint;
 use crate::fault::UaFault;
 use crate::moments::Moments;
@@ -293,7 +294,7 @@ impl<F: RecordFile> Turns<F> {
         let rest = self.waiting.split_off(limit.min(self.waiting.len()))?;
         let events = mem::replace(&mut self.waiting, rest);
         let is_full = events.len() >= limit;
-        let round = Round {
+        let mut round = Round {
             moment: now,
             events: Series::from_vec(events),
         };
@@ -301,11 +302,31 @@ impl<F: RecordFile> Turns<F> {
         let mut outputs = run(rt, &mut self.agent, division, number, &round)?;
         self.moments.last = now;
         let reflected = take_reflected(round.events.as_slice(), &mut outputs);
-        self.record.add(self.alloc, &round, errors)?;
+        self.keep(&mut round, &outputs, errors)?;
         let held = self.agent.live();
         self.tally.add(number, &round, &outputs, held, reflected)?;
         self.tell(&round, &outputs, notices)?;
         Ok(is_full)
+    }
+
+    // Records a round; a journal has the datagrams that were dropped without their bytes.
+    fn keep<E: Write>(
+        &mut self,
+        round: &mut Round,
+        outputs: &[PlacedOutput],
+        errors: &mut E,
+    ) -> Result<(), UaFault> {
+        if !self.record.is_journal {
+            return self.record.add(self.alloc, round, errors);
+        }
+        let mut events = mem::replace(&mut round.events, Series::new(self.alloc)).into_vec();
+        let dropped = take_dropped(self.alloc, &mut events, outputs)?;
+        round.events = Series::from_vec(events);
+        self.record.add(self.alloc, round, errors)?;
+        let mut events = mem::replace(&mut round.events, Series::new(self.alloc)).into_vec();
+        put_back(&mut events, dropped);
+        round.events = Series::from_vec(events);
+        Ok(())
     }
 
     // Sends and tells the outputs of a round.

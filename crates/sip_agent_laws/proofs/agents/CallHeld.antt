@@ -1,12 +1,11 @@
 -- What a whole call holds without a final response, after one input.
 use Rattle.std.proofs.Common.{◌≡◌, ◌⊎◌, inl, inr, ⊎_elim, ℕ, Bool, true, false, List, [], ◌∷◌, refl, sym, ap, ◌∙◌, subst, arith}
-use Rattle.std.specs.Prelude.{Option, None, Some, codes, nat_lt}
+use Rattle.std.specs.Prelude.{Option, None, Some, nat_lt}
 use Rattle.std.proofs.lemmas.Grind.{common_steps}
 use Rattle.sip_message.specs.declared.addr.Addr.{Addr}
 use Rattle.sip_message.specs.declared.id.Id.{Id}
 use Rattle.sip_message.specs.declared.key.Key.{Key}
 use Rattle.sip_message.specs.declared.message.Message.{Message}
-use Rattle.sip_message.specs.Key.{method_in}
 use Rattle.sip_transactions.specs.declared.output.Up.{Up as AnUp}
 use Rattle.sip_transactions.specs.declared.output.UpKind.{UpKind}
 use Rattle.sip_transactions.specs.declared.output.UpKind.TheVariants as kind
@@ -117,14 +116,14 @@ step_takes calls (Some call) event now up request reply_to apart is =
     kept_stays up.key up.id (item_of_call true call (event_of calls event now) (Up up))
     (takes_so calls true call event now up request reply_to apart is)
 
--- ---- an INVITE of the call
+-- ---- a request of the call
 
 -- what comes up under this id is at most a provisional response
 abbrev pub IsHarmless : Id → Id → UpKind → Type 0
 IsHarmless id own (kind.Request request reply_to) = Unit {0}
 IsHarmless id own (kind.Ack ack) = Unit {0}
-IsHarmless id own (kind.Response response) =
-    is_id own id ≡ true → KindIsMild (kind.Response response)
+IsHarmless id own (kind.Response response) = is_id own id ≡ true → (status : ℕ)
+    → status_of response.start ≡ Some status → is_final status ≡ false
 IsHarmless id own kind.Timeout = is_id own id ≡ false
 IsHarmless id own kind.Failed = is_id own id ≡ false
 
@@ -139,12 +138,12 @@ early_status one status same early =
     let is : one ≡ status = cc in
     subst (λ (n : ℕ). is_final n ≡ false) is (grind (arith, common_steps, early))
 
-mild_status : (response : Message) → KindIsMild (kind.Response response) → (status : ℕ)
+pub mild_status : (response : Message) → KindIsMild (kind.Response response) → (status : ℕ)
     → status_of response.start ≡ Some status → is_final status ≡ false
 mild_status response mild status is =
     early_status mild.0 status (sym (ap status_of mild.2) ∙ is) mild.3
 
-module _ (k : Key) (id : Id) (invite : method_in k ≡ codes "INVITE") (of : List ℕ) where
+module _ (k : Key) (id : Id) (commanded : asked.IsCommanded k) (of : List ℕ) where
   abbrev GoesIn : Call → CallTaken → Type 0
   GoesIn call taken = Goes k id of call.clients (taken.0).clients taken.1
 
@@ -180,22 +179,22 @@ module _ (k : Key) (id : Id) (invite : method_in k ≡ codes "INVITE") (of : Lis
       (kind_same call.served (made_tag (event_of calls event now)) up (kind.Ack ack) now)
       ∙ kind_starts call.served (made_tag (event_of calls event now)) up (kind.Ack ack) now)
   up_goes calls call event now up (kind.Response response) harmless =
-      (response_goes k id invite of (event_of calls event now) up.id up.call_id response
-      (side_of call) (λ here. mild_status response (harmless here))).goes
+      (response_goes k id commanded of (event_of calls event now) up.id up.call_id response
+      (side_of call) harmless).goes
   up_goes calls call event now up kind.Timeout harmless =
       told_first call.clients _ _ _
-      (lost_goes k id invite of up.id true (side_of call) harmless).goes
+      (lost_goes k id commanded of up.id true (side_of call) harmless).goes
   up_goes calls call event now up kind.Failed harmless =
       told_first call.clients _ _ _
-      (lost_goes k id invite of up.id false (side_of call) harmless).goes
+      (lost_goes k id commanded of up.id false (side_of call) harmless).goes
 
   first_goes : (calls : Calls) (call : Call) (event : Id) (now : ℕ) (c : UserCommand)
       → call_of_command c ≡ of
       → GoesIn call (item_of_call false call (event_of calls event now) (User c))
   first_goes calls call event now (user.Invite invited) own =
-      invite_goes k id invite of (event_of calls event now) invited call.clients own
+      invite_goes k id commanded of (event_of calls event now) invited call.clients own
   first_goes calls call event now (user.Plain plain) own =
-      plain_goes k id invite of (event_of calls event now) plain call.clients own
+      plain_goes k id commanded of (event_of calls event now) plain call.clients own
   first_goes calls call event now (user.Request request) own = unchanged call _ refl
   first_goes calls call event now (user.Respond respond) own = unchanged call _ refl
   first_goes calls call event now (user.Ack ack) own = unchanged call _ refl
@@ -210,21 +209,21 @@ module _ (k : Key) (id : Id) (invite : method_in k ≡ codes "INVITE") (of : Lis
   command_goes calls call event now (user.Invite invited) sides = unchanged call _ refl
   command_goes calls call event now (user.Plain plain) sides = unchanged call _ refl
   command_goes calls call event now (user.Request request) sides =
-      (request_goes k id invite of (event_of calls event now) request (side_of call)
+      (request_goes k id commanded of (event_of calls event now) request (side_of call)
       (sides.state).dialogs).goes
   command_goes calls call event now (user.Respond respond) sides =
       unchanged call _ (ap (λ (taken : ServedTaken). starts taken.1)
       (respond_same call.served event respond now) ∙ respond_starts call.served event respond now)
   command_goes calls call event now (user.Ack ack) sides =
-      (ack_goes k id invite of (event_of calls event now) ack (side_of call)).goes
+      (ack_goes k id commanded of (event_of calls event now) ack (side_of call)).goes
   command_goes calls call event now (user.Prack prack) sides =
-      (prack_goes k id invite of (event_of calls event now) prack (side_of call)).goes
+      (prack_goes k id commanded of (event_of calls event now) prack (side_of call)).goes
   command_goes calls call event now (user.Cancel cancel) sides =
-      (cancel_goes k id invite of (event_of calls event now) cancel (side_of call)).goes
+      (cancel_goes k id commanded of (event_of calls event now) cancel (side_of call)).goes
   command_goes calls call event now (user.AbandonRequest abandon) sides =
-      (abandon_goes k id invite of (event_of calls event now) abandon (side_of call)).goes
+      (abandon_goes k id commanded of (event_of calls event now) abandon (side_of call)).goes
   command_goes calls call event now (user.AbandonDialog abandon) sides =
-      (abandon_dialog_goes k id invite of (event_of calls event now) abandon (side_of call)).goes
+      (abandon_dialog_goes k id commanded of (event_of calls event now) abandon (side_of call)).goes
 
   abbrev pub GoesHeld : Option Call → Option Call × List CallOut → Type 0
   GoesHeld call taken =
@@ -252,7 +251,7 @@ module _ (k : Key) (id : Id) (invite : method_in k ≡ codes "INVITE") (of : Lis
       kept_goes (Some call) (call_tick call now)
       (calm_goes k id of call.clients _ _
       (silent k id call.clients _ _ (tick_silent calls (Some call) now)
-      (λ ours. tick_holds k id invite _ now ours)))
+      (λ ours. tick_holds k id commanded _ now ours)))
   step_goes calls (Some call) (Some (event, Up up)) now own its harmless =
       kept_goes (Some call) (item_of_call true call (event_of calls event now) (Up up))
       (up_goes calls call event now up up.kind harmless)
@@ -270,13 +269,13 @@ tick_served k id calls (Some call) now ours =
     subst (served.Holds k id) (sym (kept_requests (call_tick call now).0))
     (tick_stays k id call.served now ours)
 
-pub tick_asked : (k : Key) (id : Id) → method_in k ≡ codes "INVITE" → (calls : Calls)
+pub tick_asked : (k : Key) (id : Id) → asked.IsCommanded k → (calls : Calls)
     (call : Option Call) (now : ℕ) → asked.Holds k id (side_held call).clients
     → asked.Holds k id (side_held (call_step calls call None now).0).clients
-tick_asked k id invite calls None now ours = absurd (none_found ours.1)
+tick_asked k id commanded calls None now ours = absurd (none_found ours.1)
   where
     none_found : {X : Type 0} {x : X} → None ≡ Some x → ⊥
     none_found same = absurd cc
-tick_asked k id invite calls (Some call) now ours =
+tick_asked k id commanded calls (Some call) now ours =
     subst (λ (side : Side). asked.Holds k id side.clients)
-    (sym (kept_side (call_tick call now).0)) (tick_holds k id invite _ now ours)
+    (sym (kept_side (call_tick call now).0)) (tick_holds k id commanded _ now ours)

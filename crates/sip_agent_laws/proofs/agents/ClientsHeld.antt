@@ -1,5 +1,5 @@
--- An INVITE of a call that has no final response stays held until one comes, it is lost, or the
--- user gives it up; and an INVITE that is started is held so.
+-- A request of a call that has no final response stays held until one comes, it is lost, or the
+-- user gives it up; and a request that a command starts is held so.
 use Rattle.std.proofs.Common.{◌≡◌, ◌⊎◌, inl, inr, ⊎_elim, ℕ, Bool, true, false, cond, ◌&&◌, ◌||◌, List, [], ◌∷◌, ◌++◌, refl, sym, ap, ◌∙◌, subst, arith}
 use Rattle.std.specs.Prelude.{◌==◌, ◌+◌, not, Option, None, Some, IfSome, IsSome, codes, filter, fold, find, is_none, is_some, option_and_then, unwrap_or, nat_le, if◌then◌else◌}
 use Rattle.std.specs.List.{AllByRecursion}
@@ -175,13 +175,22 @@ module _ {X : Type 0} (id : Id) where
 some_of : {X : Type 0} (o : Option X) (x : X) → o ≡ Some x → IsSome o
 some_of {X} o x e = subst (λ (p : Option X). IsSome p) (sym e) refl
 
-no_prack : codes "PRACK" ≡ codes "INVITE" → ⊥
-no_prack same = false≢true (ap (λ m. bytes_eq m (codes "INVITE")) same)
+-- it is the transaction of an INVITE
+abbrev pub is_invite_key : Key → Bool
+is_invite_key k = bytes_eq (method_in k) (codes "INVITE")
 
-no_cancel : codes "CANCEL" ≡ codes "INVITE" → ⊥
-no_cancel same = false≢true (ap (λ m. bytes_eq m (codes "INVITE")) same)
+-- or of another request that a command of its own method doesn't send
+pub record IsCommanded (k : Key) : Type 0 where
+  pub prack : codes "PRACK" ≡ method_in k → ⊥
+  pub cancel : codes "CANCEL" ≡ method_in k → ⊥
 
--- ---- one INVITE
+pub invite_commanded : (k : Key) → method_in k ≡ codes "INVITE" → IsCommanded k
+invite_commanded k invite = record {
+  prack = λ same. false≢true (ap (λ m. bytes_eq m (codes "INVITE")) (same ∙ invite));
+  cancel = λ same. false≢true (ap (λ m. bytes_eq m (codes "INVITE")) (same ∙ invite));
+}
+
+-- ---- one request
 
 -- the same request, of the same kind, without or with a final response as before
 pub record IsSame (one other : Client) : Type 0 where
@@ -195,7 +204,7 @@ module _ (k : Key) (id : Id) where
   pub record IsOurs (client : Client) : Type 0 where
     pub id_is : client.id ≡ id
     pub key_is : client_key (top_branch client.request) client.request.cseq.method ≡ k
-    pub invites : is_invite_kind client.kind ≡ true
+    pub invites : is_invite_kind client.kind ≡ is_invite_key k
     pub unanswered : client.removal ≡ None
 
   abbrev pub Holds : Clients → Type 0
@@ -239,12 +248,12 @@ module _ (k : Key) (id : Id) where
   pub record Keeps (before after : Clients) (outs : List CallOut) : Type 0 where
     pub is : Holds before → NoneUnder id outs → Holds after ⊎ Abandons k outs
 
-  -- and no INVITE is started
+  -- and it isn't started
   pub record Calm (before after : Clients) (outs : List CallOut) : Type 0 where
     pub keeps : Keeps before after outs
     pub none : (call_id : List ℕ) → Begins k id call_id outs → ⊥
 
-  -- and an INVITE that is started is held, in the call of this Call-ID
+  -- and if it is started it is held, in the call of this Call-ID
   pub record Goes (of : List ℕ) (before after : Clients) (outs : List CallOut) : Type 0 where
     pub keeps : Keeps before after outs
     pub begins : (call_id : List ℕ) → Begins k id call_id outs → Holds after × (call_id ≡ of)
@@ -307,16 +316,16 @@ module _ (k : Key) (id : Id) where
     ours.2,
   )
 
-  module _ (invite : method_in k ≡ codes "INVITE") where
+  module _ (commanded : IsCommanded k) where
     -- a request with another method
     abbrev IsOther : Client → Type 0
-    IsOther client = client.request.cseq.method ≡ codes "INVITE" → ⊥
+    IsOther client = client.request.cseq.method ≡ method_in k → ⊥
 
     not_ours : (call_id : List ℕ) (client : Client) → IsOther client
         → IsStartOf k call_id (order.Start
         (client_key (top_branch client.request) client.request.cseq.method)
         client.request.call_id client.request client.to) → ⊥
-    not_ours call_id client other is = other (ap method_in is.0 ∙ invite)
+    not_ours call_id client other is = other (ap method_in is.0)
 
     start_calm : (before : Clients) (done : Clients × List CallOut) (client : Client)
         → IsOther client → Calm before done.0 done.1
@@ -355,7 +364,8 @@ module _ (k : Key) (id : Id) where
 
     -- one request is started
     pub record IsFresh (of : List ℕ) (client : Client) : Type 0 where
-      pub kind : client.request.cseq.method ≡ codes "INVITE" → is_invite_kind client.kind ≡ true
+      pub kind : is_invite_kind client.kind
+          ≡ bytes_eq client.request.cseq.method (codes "INVITE")
       pub removal : client.removal ≡ None
       pub call : client.request.call_id ≡ of
 
@@ -377,7 +387,8 @@ module _ (k : Key) (id : Id) where
               record {
                 id_is = is.0;
                 key_is = is.1.0;
-                invites = fresh.kind (ap method_in is.1.0 ∙ invite);
+                invites = fresh.kind
+                    ∙ ap (λ key. bytes_eq (method_in key) (codes "INVITE")) is.1.0;
                 unanswered = fresh.removal;
               },
             ),
@@ -408,6 +419,12 @@ module _ (k : Key) (id : Id) where
     support_call support.Supported message = refl
     support_call support.Required message = refl
 
+    support_method : (asked : ProvisionalSupport) (message : Message)
+        → (with_100rel asked message).cseq.method ≡ message.cseq.method
+    support_method support.None message = refl
+    support_method support.Supported message = refl
+    support_method support.Required message = refl
+
     pub invite_goes : (of : List ℕ) (event : Event) (command : Invite) (clients : Clients)
         → command.call_id ≡ of
         → Goes of clients (invite_command event command clients).0
@@ -415,7 +432,7 @@ module _ (k : Key) (id : Id) where
     unfolding invite_command with_content_of
     invite_goes of event command clients is =
         start_goes of clients _ (record {
-          kind = λ method. refl;
+          kind = sym (ap (λ m. bytes_eq m (codes "INVITE")) (support_method command.support _));
           removal = refl;
           call = support_call command.support _ ∙ is;
         })
@@ -441,10 +458,8 @@ module _ (k : Key) (id : Id) where
         (clients, refused event.id command.call_id BadMethod) (start (clients, []) client)
         (λ bad. calm_goes of clients clients _ (silent clients clients _ refl (λ ours. ours)))
         (λ good. start_goes of clients client (record {
-          kind = λ method. absurd (false≢true
-              (sym (or_false first second
-              (or_false (first || second) (bytes_eq command.method (codes "BYE")) good).0).1
-              ∙ ap (λ m. bytes_eq m (codes "INVITE")) method));
+          kind = sym (or_false first second
+              (or_false (first || second) (bytes_eq command.method (codes "BYE")) good).0).1;
           removal = refl;
           call = is;
         }))
@@ -456,13 +471,16 @@ module _ (k : Key) (id : Id) where
         → IsFresh of (request_with_next_number event name method rack content held)
     unfolding with_content_of
     next_fresh of event name method rack content held its = record {
-      kind = λ is. ap (λ m. is_invite_kind
-          (if bytes_eq m (codes "INVITE")
-          then ReInvite (record { name = name; created_by = held.created_by })
-          else InDialog (record { name = name; created_by = held.created_by }))) is;
+      kind = kind_is (bytes_eq method (codes "INVITE"));
       removal = refl;
       call = its;
     }
+      where
+        kind_is : (b : Bool) → is_invite_kind
+            (if b then ReInvite (record { name = name; created_by = held.created_by })
+            else InDialog (record { name = name; created_by = held.created_by })) ≡ b
+        kind_is true = refl
+        kind_is false = refl
 
     request_held : (of : List ℕ) (event : Event) (command : DialogRequest) (side : Side)
         (name : DialogId) (held : HeldDialog) → IsDialogOf of held
@@ -518,7 +536,7 @@ module _ (k : Key) (id : Id) where
     unfolding with_content_of
     sent_paid event name (Ack invited cseq) content held = record { prack = tt; outs = refl }
     sent_paid event name (Prack rseq cseq) content held =
-        record { prack = (no_prack, tt); outs = refl }
+        record { prack = (commanded.prack, tt); outs = refl }
 
     outcome_paid : (event : Event) (of : List ℕ) (name : DialogId) (pending : PendingRequest)
         (content : Option Content) (without_it with_it : HeldDialog)
@@ -594,7 +612,7 @@ module _ (k : Key) (id : Id) where
     -- ---- CANCEL
 
     cancel_other : (by : Id) (client : Client) → IsOther (cancel_request by client)
-    cancel_other by client is = no_cancel is
+    cancel_other by client is = commanded.cancel is
 
     cancelled : (of : List ℕ) (event : Event) (command : Cancel) (side : Side) (own : Client)
         → lookup (is_id command.id) side.clients ≡ Some own

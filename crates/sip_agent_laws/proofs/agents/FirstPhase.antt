@@ -51,13 +51,13 @@ IsArrival (Some Abandon) = ⊥
 abbrev pub AreArrivals : Items → Type 0
 AreArrivals items = AllByRecursion (λ item. IsArrival item.input.input) items
 
-abbrev tells : States → Items → Told
+abbrev pub tells : States → Items → Told
 tells states items = told_items key_cmp transaction_machine states items
 
-abbrev after_item : States → Item Key (Timed Input) → States
+abbrev pub after_item : States → Item Key (Timed Input) → States
 after_item states item = stepped key_cmp transaction_machine states item
 
-no_start : (k : Key) (held : Option Life) (input : Option Input) (outs : List Out) (life : Life)
+pub no_start : (k : Key) (held : Option Life) (input : Option Input) (outs : List Out) (life : Life)
     → IsArrival input → is_server (role_of k) ≡ false → IsBegun k held input outs life → ⊥
 no_start k held input outs life arrives client begun =
     let began = begun.started client in subst IsArrival began.2 arrives

@@ -1,6 +1,6 @@
 -- Each transaction without a final response belongs to a call that holds its request: one round.
 use Rattle.std.proofs.Common.{◌≡◌, ◌⊎◌, inl, inr, ⊎_elim, ℕ, suc, ◌≤◌, true, false, cond, List, [], ◌∷◌, ◌++◌, map, refl, sym, ap, ◌∙◌, subst}
-use Rattle.std.specs.Prelude.{Option, None, Some, codes, filter}
+use Rattle.std.specs.Prelude.{Option, None, Some, filter}
 use Rattle.std.specs.BTreeMap.{is_at}
 use Rattle.std.specs.List.{AllByRecursion}
 use Rattle.std.proofs.lemmas.Bool.{false≢true}
@@ -9,7 +9,7 @@ use Rattle.std.proofs.lemmas.List.Elements.{filter_map-append}
 use Rattle.std.proofs.lemmas.Map.Lookups.{exact_bytes}
 use Rattle.sip_message.specs.declared.id.Id.{Id}
 use Rattle.sip_message.specs.declared.key.Key.{Key}
-use Rattle.sip_message.specs.Key.{key_cmp, keys_total, method_in}
+use Rattle.sip_message.specs.Key.{key_cmp, keys_total}
 use Rattle.sip_message.specs.Keys.{exact_keys}
 use Rattle.keyed_machine.specs.declared.item.Item as model
 use Rattle.keyed_machine.specs.Groups.{speaks}
@@ -56,7 +56,7 @@ use Rattle.sip_round.proofs.OwnItems.{second_own}
 use Rattle.sip_round.proofs.Said.{calls_say, transactions_say}
 use Rattle.sip_round.proofs.StartedOnce.{ticks_start}
 use Rattle.sip_agent_laws.specs.Agents.Open.{is_open}
-use Rattle.sip_agent_laws.proofs.agents.CallHeld.{InputIsHarmless, IsHarmless, tick_asked, tick_served}
+use Rattle.sip_agent_laws.proofs.agents.CallHeld.{InputIsHarmless, IsHarmless, mild_status, tick_asked, tick_served}
 use Rattle.sip_agent_laws.proofs.agents.ClientsHeld as client_side
 use Rattle.sip_agent_laws.proofs.agents.Commands.{IsLeft, ordered, run, run_on}
 use Rattle.sip_agent_laws.proofs.agents.FirstOuts.{AreReceived, AreStarted, IsFrom, KindIsFrom, OutIsFrom, RequestCame, items_from, received_then, received_ticked, started_then, started_ticked, ticks_from}
@@ -119,7 +119,7 @@ pub record IsLinked (config : Config) (past : Past) (said : List (Id × Key)) (c
       → lives_in past k ≡ Some life → is_open (role_of k) life.state ≡ true
       → server_side.Holds k life.context.id
       (requests_held (calls_in config past life.context.call_id))
-  pub asked : (k : Key) → method_in k ≡ codes "INVITE" → is_server (role_of k) ≡ false
+  pub asked : (k : Key) → client_side.IsCommanded k → is_server (role_of k) ≡ false
       → (life : Life) → lives_in past k ≡ Some life → is_open (role_of k) life.state ≡ true
       → client_side.Holds k life.context.id
       (side_held (calls_in config past life.context.call_id)).clients
@@ -214,7 +214,7 @@ module _ (config : Config) (number : ℕ) (past : Past) (round : Round) where
       (filter (λ q. speaks (adds (call_machine calls) q (calls_in config past q) (tick_at now)))
       (keys_of_phases call_cmp past.calls))
 
-  starts_are : (k : Key) → starts given ≡ starts (says calls k now calls_ticked second_items)
+  pub starts_are : (k : Key) → starts given ≡ starts (says calls k now calls_ticked second_items)
   starts_are k =
       ap starts (given_is k)
       ∙ (filter_map-append start_in (joined second_ticks)
@@ -222,10 +222,10 @@ module _ (config : Config) (number : ℕ) (past : Past) (round : Round) where
       ∙ ap (λ none. none ++ starts (says calls k now calls_ticked second_items))
       ticks_start_none)
 
-  no_events : AreArrivals first_items
+  pub no_events : AreArrivals first_items
   no_events = arrivals_arrive now config.local number 1 round.events
 
-  second_own_items : AllByRecursion (λ (item : model.Item (List ℕ) (Timed CallItem)).
+  pub second_own_items : AllByRecursion (λ (item : model.Item (List ℕ) (Timed CallItem)).
       IsInputOf item.key item.input.input) second_items
   unfolding second
   second_own_items = second_own config number past round
@@ -249,7 +249,7 @@ module _ (config : Config) (number : ℕ) (past : Past) (round : Round) where
       → Among (came ++ requests_among items) x → ⊥)
       (behind : (q : List ℕ) → Behind calls (calls_ticked q) (inputs_of call_cmp second_items q))
       (own : AreOwnCalls config past.calls) where
-    abbrev came_now : List Id
+    abbrev pub came_now : List Id
     came_now = came ++ requests_among items
 
     -- ---- what came up
@@ -279,17 +279,17 @@ module _ (config : Config) (number : ℕ) (past : Past) (round : Round) where
     all_came (out.Dropped place why ∷ outs) within =
         (tt, all_came outs (λ o among. within o (inr among)))
 
-    requests_came : AllByRecursion (RequestCame said came_now) (joined first_told.items)
+    pub requests_came : AllByRecursion (RequestCame said came_now) (joined first_told.items)
     requests_came = all_came (joined first_told.items) (λ o among. among)
 
     -- ---- which transactions there are, after the first phase
 
-    received_now : AreReceived said came_now (lives_in past)
+    pub received_now : AreReceived said came_now (lives_in past)
     received_now q serves life is =
         among_left came (requests_among items) life.context.id
         (linked.received q serves life is)
 
-    started_now : AreStarted said came_now (lives_in past)
+    pub started_now : AreStarted said came_now (lives_in past)
     started_now q client life is = linked.started q client life is
 
     started_between : AreStarted said came_now lives_between
@@ -400,7 +400,7 @@ module _ (config : Config) (number : ℕ) (past : Past) (round : Round) where
         (sym (calls_after_is life.context.call_id))
         (⊎_elim (λ holds. holds) (λ none. absurd none.1) (all life ran still))
 
-    -- ---- an INVITE of a call
+    -- ---- a request of a call
 
     abbrev After : Key → Type 0
     After k = (life : Life) × (lives_between k ≡ Some life)
@@ -415,7 +415,7 @@ module _ (config : Config) (number : ℕ) (past : Past) (round : Round) where
     one_key x one other here there =
         only_key said (λ y. fewer_counted y said (starts given) (once y)) x one other here there
 
-    module _ (k : Key) (invite : method_in k ≡ codes "INVITE")
+    module _ (k : Key) (commanded : client_side.IsCommanded k)
         (client : is_server (role_of k) ≡ false) where
       mild_outs : After k → AreMild k first_told.items
       mild_outs after =
@@ -467,7 +467,8 @@ module _ (config : Config) (number : ℕ) (past : Past) (round : Round) where
       harmless_kind (kind.Request request reply_to) own id key from known = tt
       harmless_kind (kind.Ack ack) own id key from known = tt
       harmless_kind (kind.Response response) own id key from known =
-          λ same. mild_so (kind.Response response) own id key (id_exact own id same) from known
+          λ same. mild_status response
+          (mild_so (kind.Response response) own id key (id_exact own id same) from known)
       harmless_kind kind.Timeout own id key from known =
           by_bool (is_id own id)
           (λ same. absurd (mild_so kind.Timeout own id key (id_exact own id same) from known))
@@ -491,25 +492,25 @@ module _ (config : Config) (number : ℕ) (past : Past) (round : Round) where
       each_harmless ((event, User c) ∷ all) come =
           (λ id known. tt, each_harmless all come.1)
 
-      asked_first : AskedLinked calls k now invite client (Known k)
+      asked_first : AskedLinked calls k now commanded client (Known k)
           (run k now (lives_between k) (orders (joined second_ticks))) calls_ticked said
       asked_first life is still =
           let left = ticks_leave k life is in
           subst (λ (named : Id × List ℕ).
-          IsAsked calls k now invite client (Known k) calls_ticked said named.0 named.1)
+          IsAsked calls k now commanded client (Known k) calls_ticked said named.0 named.1)
           (λ i. (left.id i, left.call i))
           (between left.before left.was (left.open_before still))
         where
           between : (life : Life) → lives_between k ≡ Some life
               → is_open (role_of k) life.state ≡ true
-              → IsAsked calls k now invite client (Known k) calls_ticked said life.context.id
+              → IsAsked calls k now commanded client (Known k) calls_ticked said life.context.id
               life.context.call_id
           between life is still =
               let was =
               (client_then k client first_items lives_ticked life no_events is still).0 in
               let first = (client_was k client (lives_in past k) now None was.before tt was.was
               was.still).0 in
-              let held = linked.asked k invite client first.before first.was first.still in
+              let held = linked.asked k commanded client first.before first.was first.still in
               let among : Among said (life.context.id, k) =
               subst (λ id. Among said (id, k)) (first.id ∙ was.id)
               (linked.started k client first.before first.was) in
@@ -517,7 +518,7 @@ module _ (config : Config) (number : ℕ) (past : Past) (round : Round) where
                 holds = subst (λ (named : Id × List ℕ). client_side.Holds k named.0
                     (side_held (calls_ticked named.1)).clients)
                     (λ i. ((first.id ∙ was.id) i, (first.call ∙ was.call) i))
-                    (tick_asked k first.before.context.id invite calls
+                    (tick_asked k first.before.context.id commanded calls
                     (calls_in config past first.before.context.call_id) now held);
                 started = among;
                 known = inl ((life, is, still), among);
@@ -533,7 +534,7 @@ module _ (config : Config) (number : ℕ) (past : Past) (round : Round) where
       asked_after life is still =
           let outs = says calls k now calls_ticked second_items in
           let same = starts_are k in
-          let all = asked_sim calls k now invite client (Known k) second_items calls_ticked
+          let all = asked_sim calls k now commanded client (Known k) second_items calls_ticked
           (run k now (lives_between k) (orders (joined second_ticks))) said own_ticked
           second_own_items
           (all_given now Harmless 0 items (each_harmless items items_come))
@@ -558,5 +559,5 @@ module _ (config : Config) (number : ℕ) (past : Past) (round : Round) where
       started = started_after;
       received = received_after;
       served = served_after;
-      asked = λ k invite client. asked_after k invite client;
+      asked = λ k commanded client. asked_after k commanded client;
     }

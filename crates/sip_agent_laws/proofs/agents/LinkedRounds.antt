@@ -61,7 +61,7 @@ module _ (config : Config) where
 
   module _ (number : ℕ) (past : Past) (round : Round) (later : List (Timed CallItem)) (q : List ℕ)
       (rise : RequestsRise (given_to past.calls q ++ (own number past round q ++ later))) where
-    behind_so : Behind (calls_of config)
+    pub behind_so : Behind (calls_of config)
         (call_step (calls_of config) (calls_in config past q) None round.moment).0
         (inputs_of call_cmp
         (timed_items round.moment (call_items 0 (items_of_round config number past round))) q)
@@ -81,16 +81,16 @@ module _ (config : Config) where
         }
 
   -- in these rounds no id is started twice, and none under which a request comes up
-  record IsFair (number : ℕ) (past : Past) (rounds : List Round) (said : List (Id × Key))
+  pub record IsFair (number : ℕ) (past : Past) (rounds : List Round) (said : List (Id × Key))
       (came : List Id) : Type 0 where
-    once : (x : Id) → how_many x (ids_of (said ++ starts_from config number past rounds)) ≤ 1
-    apart : (x : Id) (key : Key) → Among (said ++ starts_from config number past rounds) (x, key)
+    pub once : (x : Id) → how_many x (ids_of (said ++ starts_from config number past rounds)) ≤ 1
+    pub apart : (x : Id) (key : Key) → Among (said ++ starts_from config number past rounds) (x, key)
         → Among (came ++ requests_from config number past rounds) x → ⊥
-    rise : (q : List ℕ) → RequestsRise
+    pub rise : (q : List ℕ) → RequestsRise
         (given_to past.calls q ++ given_to (calls_from config number past rounds) q)
-    own_calls : AreOwnCalls config past.calls
+    pub own_calls : AreOwnCalls config past.calls
 
-  fair_next : (number : ℕ) (past : Past) (round : Round) (rounds : List Round)
+  pub fair_next : (number : ℕ) (past : Past) (round : Round) (rounds : List Round)
       (said : List (Id × Key)) (came : List Id)
       → IsFair number past (round ∷ rounds) said came
       → IsFair (suc number) (past_after config number past round) rounds
@@ -119,33 +119,54 @@ module _ (config : Config) where
         own_calls = own_from config [] number past (round ∷ []) fair.own_calls;
       }
 
-  linked_next : (number : ℕ) (past : Past) (round : Round) (rounds : List Round)
+  -- what a round needs of these
+  module _ (number : ℕ) (past : Past) (round : Round) (rounds : List Round)
       (said : List (Id × Key)) (came : List Id)
-      → IsFair number past (round ∷ rounds) said came → IsLinked config past said came
-      → IsLinked config (past_after config number past round)
-      (said ++ starts (given_second config number past round))
-      (came ++ requests_among (items_of_round config number past round))
-  linked_next number past round rounds said came fair linked =
-      let next = past_after config number past round in
-      let here = starts (given_second config number past round) in
-      let more = starts_from config (suc number) next rounds in
-      let items = requests_among (items_of_round config number past round) in
-      let later = requests_from config (suc number) next rounds in
-      linked_after config number past round said came linked
-      (λ x. fewer_counted x (said ++ here) more
-      (subst (λ all. how_many x (ids_of all) ≤ 1) (sym (append_assoc said here more))
-      (fair.once x)))
-      (λ x key started requested. fair.apart x key
-      (subst (λ all. Among all (x, key)) (append_assoc said here more)
-      (among_left (said ++ here) more (x, key) started))
-      (subst (λ all. Among all x) (append_assoc came items later)
-      (among_left (came ++ items) later x requested)))
-      (λ q.
-      let rest = given_to (calls_from config (suc number) next rounds) q in
-      behind_so number past round rest q
-      (subst (λ inputs. RequestsRise (given_to past.calls q ++ (inputs ++ rest)))
-      (own_is number past round q) (fair.rise q)))
-      fair.own_calls
+      (fair : IsFair number past (round ∷ rounds) said came)
+    where
+      abbrev here : List (Id × Key)
+      here = starts (given_second config number past round)
+
+      abbrev more : List (Id × Key)
+      more = starts_from config (suc number) (past_after config number past round) rounds
+
+      abbrev items : List Id
+      items = requests_among (items_of_round config number past round)
+
+      abbrev later : List Id
+      later = requests_from config (suc number) (past_after config number past round) rounds
+
+      pub once_now : (x : Id) → how_many x (ids_of (said ++ here)) ≤ 1
+      once_now x =
+          fewer_counted x (said ++ here) more
+          (subst (λ all. how_many x (ids_of all) ≤ 1) (sym (append_assoc said here more))
+          (fair.once x))
+
+      pub apart_now : (x : Id) (key : Key) → Among (said ++ here) (x, key)
+          → Among (came ++ items) x → ⊥
+      apart_now x key started requested =
+          fair.apart x key
+          (subst (λ all. Among all (x, key)) (append_assoc said here more)
+          (among_left (said ++ here) more (x, key) started))
+          (subst (λ all. Among all x) (append_assoc came items later)
+          (among_left (came ++ items) later x requested))
+
+      pub behind_now : (q : List ℕ) → Behind (calls_of config)
+          (call_step (calls_of config) (calls_in config past q) None round.moment).0
+          (inputs_of call_cmp
+          (timed_items round.moment (call_items 0 (items_of_round config number past round))) q)
+      behind_now q =
+          let rest = given_to (calls_from config (suc number) (past_after config number past round)
+          rounds) q in
+          behind_so number past round rest q
+          (subst (λ inputs. RequestsRise (given_to past.calls q ++ (inputs ++ rest)))
+          (own_is number past round q) (fair.rise q))
+
+      pub linked_next : IsLinked config past said came
+          → IsLinked config (past_after config number past round) (said ++ here) (came ++ items)
+      linked_next linked =
+          linked_after config number past round said came linked once_now apart_now behind_now
+          fair.own_calls
 
   linked_from : (rounds : List Round) (number : ℕ) (past : Past) (said : List (Id × Key))
       (came : List Id) → IsFair number past rounds said came → IsLinked config past said came
@@ -159,15 +180,15 @@ module _ (config : Config) where
       (fair_next number past round rounds said came fair)
       (linked_next number past round rounds said came fair linked)
 
-  nothing_linked : IsLinked config no_past [] []
+  pub nothing_linked : IsLinked config no_past [] []
   nothing_linked = record {
     started = λ q client life is. absurd cc;
     received = λ q serves life is. absurd cc;
     served = λ k serves life is still. absurd cc;
-    asked = λ k invite client life is still. absurd cc;
+    asked = λ k commanded client life is still. absurd cc;
   }
 
-  all_fair : (rounds : List Round) → IsFair config.first no_past rounds [] []
+  pub all_fair : (rounds : List Round) → IsFair config.first no_past rounds [] []
   unfolding past_of
   all_fair rounds = record {
     once = λ x. subst (λ ids. how_many x ids ≤ 1)

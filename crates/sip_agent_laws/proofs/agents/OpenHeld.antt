@@ -1,6 +1,7 @@
 -- The request of a transaction without a final response is held by its call.
 use Rattle.std.proofs.Common.{◌≡◌, ⊎_elim, true, List, [], ◌∷◌, refl, sym, ap, ◌∙◌}
 use Rattle.std.specs.Prelude.{Option, Some, codes, find, if◌then◌else◌}
+use Rattle.std.specs.Str.{bytes_eq}
 use Rattle.std.proofs.lemmas.Bool.{false≢true}
 use Rattle.std.proofs.lemmas.Slice.Eq.{bytes_eq-Decides}
 use Rattle.keyed_machine.proofs.Ordered.{by_bool}
@@ -108,13 +109,14 @@ each_open_is_held config rounds k life is still = by_role (role_of k) refl
 
     by_role : (r : Role) → role_of k ≡ r → HoldsOpen r call k life.context.id
     by_role role.InviteClient same =
-        let ours = (rounds_linked config rounds).2.asked k (invite_of k same)
-        (ap is_server same) life is still in
+        let invite = invite_of k same in
+        let ours = (rounds_linked config rounds).2.asked k
+        (client_side.invite_commanded k invite) (ap is_server same) life is still in
         record {
           client = ours.0;
           found = ours.1;
           key_is = (ours.2).key_is;
-          invites = (ours.2).invites;
+          invites = (ours.2).invites ∙ ap (λ m. bytes_eq m (codes "INVITE")) invite;
           unanswered = (ours.2).unanswered;
         }
     by_role role.Client same = tt

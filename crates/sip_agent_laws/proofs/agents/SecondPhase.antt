@@ -1,7 +1,7 @@
 -- The second phase of a round: each call takes its items, and its commands go to the transactions.
 -- What has no final response stays held meanwhile.
 use Rattle.std.proofs.Common.{◌≡◌, ◌⊎◌, inl, inr, ⊎_elim, ℕ, ◌≤◌, true, false, cond, List, [], ◌∷◌, ◌++◌, refl, sym, ap, ◌∙◌, append-nil, append_assoc, subst, arith}
-use Rattle.std.specs.Prelude.{Option, Some, codes}
+use Rattle.std.specs.Prelude.{Option, Some}
 use Rattle.std.specs.BTreeMap.{is_at}
 use Rattle.std.specs.List.{AllByRecursion, flat_map}
 use Rattle.std.proofs.lemmas.Bool.{false≢true}
@@ -14,7 +14,6 @@ use Rattle.sip_message.specs.declared.addr.Addr.{Addr}
 use Rattle.sip_message.specs.declared.id.Id.{Id}
 use Rattle.sip_message.specs.declared.key.Key.{Key}
 use Rattle.sip_message.specs.declared.message.Message.{Message}
-use Rattle.sip_message.specs.Key.{method_in}
 use Rattle.keyed_machine.specs.declared.item.Item.{Item}
 use Rattle.keyed_machine.specs.Machine.{Machine, Timed, adds, next}
 use Rattle.keyed_machine.specs.Phase.{states_then, stepped, told_items}
@@ -88,7 +87,7 @@ no_final k outs (out.Command id c, among, is) none =
     (ordered_among outs id c among) is
 no_final k outs (out.Direct to bytes, among, is) none = is
 
-no_abandon : (k : Key) (outs : List CallOut) → Abandons k outs
+pub no_abandon : (k : Key) (outs : List CallOut) → Abandons k outs
     → AllByRecursion (λ (c : Id × Command). IsAbandonOf k c.1 → ⊥) (orders outs) → ⊥
 no_abandon k outs (out.Notice notice, among, is) none = is
 no_abandon k outs (out.Command id c, among, is) none =
@@ -127,7 +126,7 @@ among_starts k call_id (out.Command own (order.Start key of message to) ∷ outs
     inl (λ i. (this i, its.0 i)))
     (λ later. inr (among_starts k call_id outs id c later is)) among
 
-none_under : (id : Id) (outs : List CallOut) → ((key : Key) → Among (starts outs) (id, key) → ⊥)
+pub none_under : (id : Id) (outs : List CallOut) → ((key : Key) → Among (starts outs) (id, key) → ⊥)
     → NoneUnder id outs
 none_under id [] never = tt
 none_under id (out.Notice notice ∷ outs) never = (λ is. is, none_under id outs never)
@@ -207,7 +206,7 @@ module _ (calls : Calls) (k : Key) (now : ℕ) where
   abbrev pub after_item : CallStates → Item (List ℕ) (Timed CallItem) → CallStates
   after_item states item = stepped call_cmp machine states item
 
-  abbrev here : CallStates → Item (List ℕ) (Timed CallItem) → List CallOut
+  abbrev pub here : CallStates → Item (List ℕ) (Timed CallItem) → List CallOut
   here states item = adds machine item.key (states item.key) item.input
 
   abbrev pub IsOpen : Life → Type 0
@@ -220,7 +219,7 @@ module _ (calls : Calls) (k : Key) (now : ℕ) where
       ∙ run_append k now held (orders xs) (orders ys)
 
   -- what is held of a call after an item
-  moved : (P : Option Call → Type 0) (states : CallStates) (item : Item (List ℕ) (Timed CallItem))
+  pub moved : (P : Option Call → Type 0) (states : CallStates) (item : Item (List ℕ) (Timed CallItem))
       (call_id : List ℕ)
       → (item.key ≡ call_id → P (next machine item.key (states item.key) item.input))
       → P (states call_id) → P (after_item states item call_id)
@@ -332,9 +331,9 @@ module _ (calls : Calls) (k : Key) (now : ℕ) where
       (run_on k now (orders outs) held life is))
       life (sym (in_parts held outs (says after items)) ∙ is) still
 
-  -- ---- an INVITE of a call
+  -- ---- a request of a call
 
-  module _ (invite : method_in k ≡ codes "INVITE") (client : is_server (role_of k) ≡ false)
+  module _ (commanded : client_side.IsCommanded k) (client : is_server (role_of k) ≡ false)
       (Known : Id → Type 0) where
     -- its call holds it, and it was started
     pub record IsAsked (states : CallStates) (told : List (Id × Key)) (id : Id)
@@ -361,7 +360,7 @@ module _ (calls : Calls) (k : Key) (now : ℕ) where
     abbrev pub AreKnown : List CallOut → Type 0
     AreKnown outs = (id : Id) → Among (starts outs) (id, k) → Known id
 
-    own_after : (states : CallStates) (item : Item (List ℕ) (Timed CallItem))
+    pub own_after : (states : CallStates) (item : Item (List ℕ) (Timed CallItem))
         → IsInputOf item.key item.input.input → ((q : List ℕ) → IsCallOf q (states q))
         → (q : List ℕ) → IsCallOf q (after_item states item q)
     own_after states item its own q =
@@ -374,10 +373,10 @@ module _ (calls : Calls) (k : Key) (now : ℕ) where
     goes_here : (states : CallStates) (item : Item (List ℕ) (Timed CallItem)) (id : Id)
         → IsInputOf item.key item.input.input → IsCallOf item.key (states item.key)
         → ((id : Id) → Known id → InputIsHarmless id item.input.input) → Known id
-        → GoesHeld k id invite item.key (states item.key)
+        → GoesHeld k id commanded item.key (states item.key)
         (call_step calls (states item.key) item.input.input item.input.moment)
     goes_here states item id its own harmless known =
-        step_goes k id invite item.key calls (states item.key) item.input.input item.input.moment
+        step_goes k id commanded item.key calls (states item.key) item.input.input item.input.moment
         own its (harmless id known)
 
     left_asked : (states : CallStates) (item : Item (List ℕ) (Timed CallItem))
@@ -427,7 +426,7 @@ module _ (calls : Calls) (k : Key) (now : ℕ) where
           known = known;
         }
 
-    again_left : (told : List (Id × Key)) (xs ys : List CallOut)
+    pub again_left : (told : List (Id × Key)) (xs ys : List CallOut)
         → told ++ starts (xs ++ ys) ≡ (told ++ starts xs) ++ starts ys
     again_left told xs ys =
         ap (λ more. told ++ more) (filter_map-append start_in xs ys)

@@ -30,41 +30,29 @@ use Rattle.sip_calls.specs.Sides.{side_of}
 use Rattle.sip_calls.specs.Steps.Call.{command_taken, first_command_taken, step_taken, up_taken}
 
 module _ (P : CallOut → Type 0) where
-  -- P is true of every output of an item but the notices of responses
-  pub record Passes : Type 0 where
+  -- P is true of every output of an item but the notices of responses, and of transactions that
+  -- timed out or couldn't send
+  pub record PassesOthers : Type 0 where
     pub allows : Allows P
     pub gives_up : (id : Id) (client : Client) → P (end_command id client)
-    pub timeout : (call_id : List ℕ) (id : Id) → P (out.Notice (notice.Timeout call_id id))
-    pub failed : (call_id : List ℕ) (id : Id) → P (out.Notice (notice.Failed call_id id))
     pub kinds : (state : State) (tag : List ℕ) (up : AnUp) (k : UpKind) (now : ℕ)
         → AllByRecursion P (kind_taken state tag up k now).1
     pub responds : (state : State) (id : Id) (respond : RespondCommand) (now : ℕ)
         → AllByRecursion P (respond_taken state id respond now).1
 
-module _ (P : CallOut → Type 0) (passes : Passes P) where
-  abbrev AllPass : List CallOut → Type 0
-  AllPass outs = AllByRecursion P outs
+  -- and of these
+  pub record Passes : Type 0 where
+    pub others : PassesOthers
+    pub timeout : (call_id : List ℕ) (id : Id) → P (out.Notice (notice.Timeout call_id id))
+    pub failed : (call_id : List ℕ) (id : Id) → P (out.Notice (notice.Failed call_id id))
 
-  -- what comes up, if P is true of the notice of a response
-  pub up_passes : (call : Call) (event : Event) (up : AnUp) (k : UpKind)
-      → ((response : Message) → k ≡ kind.Response response
-      → ResponseAllowed P passes.allows event up.id up.call_id response)
-      → AllPass (up_taken call event up k).1
-  up_passes call event up (kind.Request request reply_to) brings =
-      passes.kinds call.served (made_tag event) up (kind.Request request reply_to) event.moment
-  up_passes call event up (kind.Ack ack) brings =
-      passes.kinds call.served (made_tag event) up (kind.Ack ack) event.moment
-  up_passes call event up (kind.Response response) brings =
-      response_told P passes.allows event up.id up.call_id response (side_of call)
-      (brings response refl)
-  up_passes call event up kind.Timeout brings =
-      (passes.timeout up.call_id up.id, lost_told P passes.allows up.id true (side_of call))
-  up_passes call event up kind.Failed brings =
-      (passes.failed up.call_id up.id, lost_told P passes.allows up.id false (side_of call))
+module _ (P : CallOut → Type 0) (passes : PassesOthers P) where
+  abbrev AllOf : List CallOut → Type 0
+  AllOf outs = AllByRecursion P outs
 
   -- a command while nothing is held
-  first_passes : (call : Call) (event : Event) (command : UserCommand)
-      → AllPass (first_command_taken call event command).1
+  pub first_passes : (call : Call) (event : Event) (command : UserCommand)
+      → AllOf (first_command_taken call event command).1
   first_passes call event (user.Invite invite) =
       invite_told P passes.allows event invite call.clients
   first_passes call event (user.Plain plain) =
@@ -85,8 +73,8 @@ module _ (P : CallOut → Type 0) (passes : Passes P) where
       (passes.allows.refusal abandon.call_id event.id.place NoSuchCall, tt)
 
   -- a command while something is held
-  command_passes : (call : Call) (event : Event) (command : UserCommand)
-      → AllPass (command_taken call event command).1
+  pub command_passes : (call : Call) (event : Event) (command : UserCommand)
+      → AllOf (command_taken call event command).1
   command_passes call event (user.Invite invite) =
       (passes.allows.refusal invite.call_id event.id.place CallInUse, tt)
   command_passes call event (user.Plain plain) =
@@ -107,10 +95,34 @@ module _ (P : CallOut → Type 0) (passes : Passes P) where
   command_passes call event (user.AbandonDialog abandon) =
       abandon_dialog_told P passes.allows event abandon (side_of call)
 
+module _ (P : CallOut → Type 0) (passes : Passes P) where
+  abbrev AllPass : List CallOut → Type 0
+  AllPass outs = AllByRecursion P outs
+
+  abbrev others : PassesOthers P
+  others = passes.others
+
+  -- what comes up, if P is true of the notice of a response
+  pub up_passes : (call : Call) (event : Event) (up : AnUp) (k : UpKind)
+      → ((response : Message) → k ≡ kind.Response response
+      → ResponseAllowed P others.allows event up.id up.call_id response)
+      → AllPass (up_taken call event up k).1
+  up_passes call event up (kind.Request request reply_to) brings =
+      others.kinds call.served (made_tag event) up (kind.Request request reply_to) event.moment
+  up_passes call event up (kind.Ack ack) brings =
+      others.kinds call.served (made_tag event) up (kind.Ack ack) event.moment
+  up_passes call event up (kind.Response response) brings =
+      response_told P others.allows event up.id up.call_id response (side_of call)
+      (brings response refl)
+  up_passes call event up kind.Timeout brings =
+      (passes.timeout up.call_id up.id, lost_told P others.allows up.id true (side_of call))
+  up_passes call event up kind.Failed brings =
+      (passes.failed up.call_id up.id, lost_told P others.allows up.id false (side_of call))
+
   -- an item, whatever is held
   pub item_passes : (calls : Calls) (state : Option Call) (id : Id) (item : Item) (now : ℕ)
       → ((up : AnUp) (response : Message) → item ≡ Up up → up.kind ≡ kind.Response response
-      → ResponseAllowed P passes.allows (event_of calls id now) up.id up.call_id response)
+      → ResponseAllowed P others.allows (event_of calls id now) up.id up.call_id response)
       → AllPass (step_taken calls state (Some (id, item)) now).1
   item_passes calls None id (Up up) now brings =
       up_passes (new_call calls.local) (event_of calls id now) up up.kind
@@ -118,6 +130,6 @@ module _ (P : CallOut → Type 0) (passes : Passes P) where
   item_passes calls (Some call) id (Up up) now brings =
       up_passes call (event_of calls id now) up up.kind (λ response. brings up response refl)
   item_passes calls None id (User command) now brings =
-      first_passes (new_call calls.local) (event_of calls id now) command
+      first_passes P others (new_call calls.local) (event_of calls id now) command
   item_passes calls (Some call) id (User command) now brings =
-      command_passes call (event_of calls id now) command
+      command_passes P others call (event_of calls id now) command

@@ -1,4 +1,5 @@
--- Only a tick tells that no ACK or no PRACK came.
+-- Only a tick tells that no ACK or no PRACK came, and only the report of a transaction that it
+-- timed out or couldn't send.
 use Rattle.std.proofs.Common.{◌≡◌, ℕ, Bool, true, false, ◌&&◌, ◌||◌, cond, List, [], ◌∷◌, refl, sym, subst}
 use Rattle.std.specs.Prelude.{Option, None, Some, find, reverse, nat_le, not, is_none, if◌then◌else◌}
 use Rattle.std.specs.List.{AllByRecursion, list_any}
@@ -11,6 +12,9 @@ use Rattle.sip_transactions.specs.declared.output.UpKind.TheVariants as kind
 use Rattle.sip_transactions.specs.declared.output.Up.{Up as AnUp}
 use Rattle.sip_user.specs.declared.command.Respond.{Respond as RespondCommand}
 use Rattle.sip_user.specs.declared.item.CallOut.{CallOut}
+use Rattle.sip_user.specs.declared.item.CallOut.TheVariants as out
+use Rattle.sip_user.specs.declared.notice.Notice.TheVariants as notice
+use Rattle.sip_held_dialogs.specs.Ids.{is_id}
 use Rattle.sip_held_dialogs.specs.declared.held_dialog.DialogId.{DialogId}
 use Rattle.sip_held_dialogs.specs.declared.held_dialog.HeldDialog.{HeldDialog}
 use Rattle.sip_held_dialogs.specs.Dialogs.{Dialogs, dialog_at, dialog_changed, ended_at}
@@ -28,14 +32,21 @@ use Rattle.sip_clients.proofs.ClientOuts.{Allows, early, end_told}
 use Rattle.sip_calls.specs.Call.{Taken, call_step}
 use Rattle.sip_calls.proofs.SameSteps.{same_step}
 use Rattle.sip_agent_laws.specs.Calls.InTime.{OnlyTicksTell, tells_no_ack, tells_no_prack}
-use Rattle.sip_agent_laws.proofs.calls.EachItem.{Passes, item_passes}
+use Rattle.sip_agent_laws.proofs.calls.EachItem.{Passes, PassesOthers, item_passes}
 
-module _ (id : Id) where
+-- the user is told that the transaction of a request timed out, or couldn't send
+abbrev pub tells_lost : Id → CallOut → Bool
+tells_lost id (out.Notice (notice.Timeout call_id request)) = is_id id request
+tells_lost id (out.Notice (notice.Failed call_id request)) = is_id id request
+tells_lost id _ = false
+
+module _ (id : Id) (lost : Bool) where
+  -- an ACK or PRACK is missing, or, where that is asked for, a request was lost
   abbrev tells : CallOut → Bool
-  tells out = tells_no_ack id out || tells_no_prack id out
+  tells out = (tells_no_ack id out || tells_no_prack id out) || (tells_lost id out && lost)
 
   -- it tells of neither
-  abbrev Silent : CallOut → Type 0
+  abbrev pub Silent : CallOut → Type 0
   Silent out = tells out ≡ false
 
   abbrev AllSilent : List CallOut → Type 0
@@ -45,7 +56,7 @@ module _ (id : Id) where
   unfolding start_command
   started_silent event client = refl
 
-  allows : Allows Silent
+  pub allows : Allows Silent
   allows = record {
     ended = λ held. refl;
     refusal = λ call_id place why. refl;
@@ -173,26 +184,43 @@ module _ (id : Id) where
 
   -- ---- all items
 
-  passes : Passes Silent
-  passes = record {
+  pub passes_others : PassesOthers Silent
+  passes_others = record {
     allows = allows;
     gives_up = λ id client. refl;
-    timeout = λ call_id id. refl;
-    failed = λ call_id id. refl;
     kinds = λ state tag up k now. subst (λ (taken : ServedTaken). AllSilent taken.1)
         (kind_same state tag up k now) (received_silent state tag up k now);
     responds = λ state event respond now. subst (λ (taken : ServedTaken). AllSilent taken.1)
         (respond_same state event respond now) (respond_silent state event respond now);
   }
 
-  none_tells : (outs : List CallOut) → AllSilent outs → list_any tells outs ≡ false
+module _ (id : Id) where
+  none_lost : (b : Bool) → (b && false) ≡ false
+  none_lost true = refl
+  none_lost false = refl
+
+  passes : Passes (Silent id false)
+  passes = record {
+    others = passes_others id false;
+    timeout = λ call_id request. none_lost (is_id id request);
+    failed = λ call_id request. none_lost (is_id id request);
+  }
+
+  first_of : (a b : Bool) → (a || b) ≡ false → a ≡ false
+  first_of true b is = is
+  first_of false b is = refl
+
+  none_tells : (outs : List CallOut) → AllByRecursion (Silent id false) outs
+      → list_any (λ out. tells_no_ack id out || tells_no_prack id out) outs ≡ false
   none_tells [] all = refl
-  none_tells (one ∷ outs) all = λ i. all.0 i || none_tells outs all.1 i
+  none_tells (one ∷ outs) all = λ i.
+      first_of (tells_no_ack id one || tells_no_prack id one) _ all.0 i
+      || none_tells outs all.1 i
 
 pub only_ticks_tell : OnlyTicksTell
 only_ticks_tell calls state input now id =
     none_tells id (call_step calls state (Some input) now).1
-    (subst (λ (taken : Taken). AllSilent id taken.1)
+    (subst (λ (taken : Taken). AllByRecursion (Silent id false) taken.1)
     (sym (same_step calls state (Some input) now))
-    (item_passes (Silent id) (passes id) calls state input.0 input.1 now
+    (item_passes (Silent id false) (passes id) calls state input.0 input.1 now
     (λ up response came is name status has. refl)))

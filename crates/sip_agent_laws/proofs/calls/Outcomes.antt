@@ -42,7 +42,7 @@ use Rattle.sip_agent_laws.proofs.calls.Ended.{gone_at}
 
 -- ---- the outcome
 
-both_true : (x y : Bool) → (x && y) ≡ true → (x ≡ true) × (y ≡ true)
+pub both_true : (x y : Bool) → (x && y) ≡ true → (x ≡ true) × (y ≡ true)
 both_true true y e = (refl, e)
 both_true false y e = absurd (false≢true e)
 
@@ -58,7 +58,7 @@ kept_closed id came taken told gone = record {
 }
 
 -- a last response is told, and the request is over
-last_closes : (event : Event) (id : Id) (call_id : List ℕ) (response : Message) (side : Side)
+pub last_closes : (event : Event) (id : Id) (call_id : List ℕ) (response : Message) (side : Side)
     (status : ℕ) (client : Client) → status_of response.start ≡ Some status
     → (is_final status && not (is_invite_kind client.kind && is_success status)) ≡ true
     → (list_any (tells_outcome id (kind.Response response))

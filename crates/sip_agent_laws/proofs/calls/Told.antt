@@ -94,12 +94,14 @@ served_allowed = record { told = other_silent; answer = λ id key {message} here
 
 passes : Passes Silent
 passes = record {
-  allows = allows;
-  gives_up = λ id client. refl;
+  others = record {
+    allows = allows;
+    gives_up = λ id client. refl;
+    kinds = kind_passes Silent served_allowed;
+    responds = respond_passes Silent served_allowed;
+  };
   timeout = λ call_id id. refl;
   failed = λ call_id id. refl;
-  kinds = kind_passes Silent served_allowed;
-  responds = respond_passes Silent served_allowed;
 }
 
 -- ---- a response

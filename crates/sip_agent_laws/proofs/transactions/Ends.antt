@@ -41,7 +41,7 @@ use Rattle.sip_agent_laws.proofs.transactions.Told.{finals, outcomes_count, prog
 -- ---- what an input tells
 
 -- a client without a final response
-abbrev lacks : Role → State → Bool
+abbrev pub lacks : Role → State → Bool
 lacks InviteClient Calling = true
 lacks InviteClient Proceeding = true
 lacks Client Trying = true
@@ -49,11 +49,11 @@ lacks Client Proceeding = true
 lacks role state = false
 
 -- the client of an INVITE that waits for a final response
-abbrev pends : State → Bool
+abbrev pub pends : State → Bool
 pends Proceeding = true
 pends state = false
 
-abbrev lack : Role → State → ℕ
+abbrev pub lack : Role → State → ℕ
 lack role state = cond (lacks role state) 1 0
 
 abbrev pend : State → ℕ
@@ -72,7 +72,7 @@ tells_enough role state trigger step = not (is_client role)
     (outcome trigger step + score (lack role) (entered step.next (Some state)))
 
 -- and the client of another request than INVITE tells of none otherwise
-abbrev is_plain_client : Role → Bool
+abbrev pub is_plain_client : Role → Bool
 is_plain_client Client = true
 is_plain_client role = false
 
@@ -81,7 +81,7 @@ tells_once role state trigger step = not (is_plain_client role)
     || nat_le (outcome trigger step + score (lack role) (entered step.next (Some state)))
     (lack role state)
 
-abbrev is_invite_client : Role → Bool
+abbrev pub is_invite_client : Role → Bool
 is_invite_client InviteClient = true
 is_invite_client role = false
 
@@ -90,13 +90,13 @@ abbrev tells_progress : Role → State → Trigger → Step → Bool
 tells_progress role state trigger step = not (is_invite_client role)
     || nat_le (score pend (entered step.next (Some state))) (pend state + progress trigger step)
 
-abbrev NotGivenUp : Timed Input → Type 0
+abbrev pub NotGivenUp : Timed Input → Type 0
 NotGivenUp timed = is_abandon timed.input ≡ false
 
-abbrev Any : Timed Input → Type 0
+abbrev pub Any : Timed Input → Type 0
 Any timed = Unit {0}
 
-rest_enough : (key : Key) → is_client (role_of key) ≡ true → (held : Option Life)
+pub rest_enough : (key : Key) → is_client (role_of key) ≡ true → (held : Option Life)
     (inputs : List (Timed Input)) → AllByRecursion NotGivenUp inputs
     → IsWithinLife step_machine key held inputs
     → score (lack (role_of key)) (state_of held)
@@ -112,7 +112,7 @@ rest_enough key client =
     (λ trigger. leb-true _ _
     (implied (is_client role) _ client (passes tells_enough refl role life.state trigger))))
 
-rest_once : (key : Key) → is_plain_client (role_of key) ≡ true → (held : Option Life)
+pub rest_once : (key : Key) → is_plain_client (role_of key) ≡ true → (held : Option Life)
     (inputs : List (Timed Input)) → AllByRecursion Any inputs
     → IsWithinLife step_machine key held inputs
     → ups is_outcome (outputs_from step_machine key held inputs)
@@ -214,7 +214,7 @@ asks role state = lacks role state && not (is_invite_client role && pends state)
 abbrev pub Asks : Role → ℕ → State → Context → Type 0
 Asks role end state context = asks role state ≡ true → context.timers.ending ≡ Some end
 
-abbrev HasAsked : Role → State → Context → Type 0
+abbrev pub HasAsked : Role → State → Context → Type 0
 HasAsked role state context = asks role state ≡ false
 
 abbrev is_both : Due → Bool
@@ -295,7 +295,7 @@ none_is None is = refl
 none_is (Some x) is = absurd (false≢true is)
 
 -- at the tick it has fired
-tick_asked : (key : Key) (end : ℕ) (life : Life) (now : ℕ)
+pub tick_asked : (key : Key) (end : ℕ) (life : Life) (now : ℕ)
     → IsTimed (role_of key) life.state life.context
     → Asks (role_of key) end life.state life.context → nat_le end now ≡ true
     → HeldIn (HasAsked (role_of key)) (stepped key (Some life) (tick_at now)).0

@@ -2,7 +2,7 @@
 //! one of those that are up is missing.
 
 use crate::stop::{Stop, check, expect};
-use sip_compaction::{compact, leaves_the_same};
+use sip_stream::{compact, leaves_the_same};
 use sip_message::Spread;
 use std::fs;
 

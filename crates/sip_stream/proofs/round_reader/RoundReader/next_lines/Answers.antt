@@ -1,6 +1,6 @@
 -- `next_lines` gives the lines of the first round, or a front of too many.
 use Rattle.std.proofs.Common.{◌≡◌, ◌≤◌, ◌+◌, ◌^◌, ◌∙◌, ap, inl, inr, length, arith}
-use Rattle.sip_journal.specs.Rounds.{first_round}
+use Rattle.sip_files.specs.Rounds.{first_round}
 use Rattle.sip_stream.proofs.Reading.{MayBeGiven, at_end, fits, given, is_long, is_next, not_none}
 use Rattle.sip_stream.proofs.round_reader.RoundReader.next_lines.Goals as goal
 use Rattle.sip_stream.proofs.round_reader.RoundReader.next_lines.Goals.{then-len-via-then-len, then-len-via-else-len+then-not-has_more}

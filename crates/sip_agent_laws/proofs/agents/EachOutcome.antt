@@ -1,0 +1,561 @@
+-- The application is told of an outcome of each request that isn't given up.
+use Rattle.std.proofs.Common.{◌≡◌, ◌⊎◌, inl, inr, ⊎_elim, ℕ, suc, ◌+◌, ◌*◌, ◌≤◌, Bool, true, false, cond, ◌||◌, List, [], ◌∷◌, ◌++◌, map, refl, sym, ap, ◌∙◌, append_assoc, append-nil, subst, arith}
+use Rattle.std.specs.Prelude.{Option, None, Some, IsSome, codes, count_by, filter, nat_le}
+use Rattle.std.specs.BTreeMap.{is_at}
+use Rattle.std.specs.List.{AllByRecursion, flat_map, list_any}
+use Rattle.std.proofs.lemmas.Bool.{false≢true}
+use Rattle.std.proofs.lemmas.Grind.{flat_map-append}
+use Rattle.std.proofs.lemmas.List.Sums.{sum_by-cons}
+use Rattle.sip_message.specs.Keys.{exact_keys}
+use Rattle.sip_message.specs.Key.{key_cmp, keys_total, method_in}
+use Rattle.sip_message.specs.declared.id.Id.{Id}
+use Rattle.sip_message.specs.declared.key.Key.{Key}
+use Rattle.sip_message.specs.declared.key.Key.TheVariants as key
+use Rattle.sip_timers.specs.declared.estimate.TheConstants.{LIFETIME, T1}
+use Rattle.keyed_machine.specs.declared.item.Item as model
+use Rattle.keyed_machine.specs.Groups.{speaks}
+use Rattle.keyed_machine.specs.Machine.{Timed, adds, tick_at}
+use Rattle.keyed_machine.specs.Phase.{Phase, history, inputs_of as own_items, keys_of_phases, own_inputs, timed_items}
+use Rattle.keyed_machine.proofs.Ordered.{by_bool, exact_at, is_at_itself}
+use Rattle.keyed_machine.proofs.Phases.{phases_cover}
+use Rattle.sip_transactions.specs.Idle.{ticks_are_idle}
+use Rattle.sip_transactions.specs.declared.input.Command.{Command}
+use Rattle.sip_transactions.specs.declared.input.Command.TheVariants as order
+use Rattle.sip_transactions.specs.declared.input.Input.{Input}
+use Rattle.sip_transactions.specs.declared.life.Life.{Life}
+use Rattle.sip_transactions.specs.declared.output.Out.{Out}
+use Rattle.sip_transactions.specs.declared.output.Out.TheVariants as out
+use Rattle.sip_transactions.specs.declared.output.Up.{Up as AnUp}
+use Rattle.sip_transactions.specs.declared.state.Role.TheVariants as role
+use Rattle.sip_transactions.specs.Machine.{life_due, transaction_machine}
+use Rattle.sip_transactions.specs.Shard.{asked_by, command_key}
+use Rattle.sip_transactions.specs.Steps.Input.{is_abandon, is_same_method, role_of}
+use Rattle.sip_user.specs.declared.item.CallOut.{CallOut}
+use Rattle.sip_user.specs.declared.item.CallOut.TheVariants as call_out
+use Rattle.sip_user.specs.declared.item.Item.{Item}
+use Rattle.sip_user.specs.declared.item.Item.TheVariants.{Up}
+use Rattle.sip_clients.specs.Rules.Requests.{has_command}
+use Rattle.sip_calls.specs.OwnCall.{IsCallOf}
+use Rattle.sip_calls.specs.Provisionals.{side_held}
+use Rattle.sip_held_dialogs.proofs.Starts.{starts}
+use Rattle.sip_calls.proofs.CallStarts.{how_many, ids_of}
+use Rattle.sip_calls.proofs.OwnCall.{each_notice_is_own}
+use Rattle.sip_round.specs.declared.config.Config.{Config}
+use Rattle.sip_round.specs.declared.output.Output.{Output}
+use Rattle.sip_round.specs.declared.output.Output.TheVariants as output
+use Rattle.sip_round.specs.declared.round.Round.{Round}
+use Rattle.sip_round.specs.Answers.{Past, answer, answers, arrivals, calls_of, each_from, first, given_second, items_of_round, no_past, past_after, past_from, past_of, said_by_transactions, third}
+use Rattle.sip_round.specs.Given.{all_given}
+use Rattle.sip_round.specs.Outputs.{all_said, call_outputs, joined, sent_of, raised_of}
+use Rattle.sip_round.specs.Phases.{command_items}
+use Rattle.sip_round.proofs.AnswerParts.{answer_parts, sent_first}
+use Rattle.sip_agent_laws.specs.Agents.AtRest.{reaches}
+use Rattle.sip_agent_laws.specs.Transactions.Outcomes.{is_outcome}
+use Rattle.sip_agent_laws.specs.Agents.Outcomes.{Sends, is_given_up, outcomes_told, tells_outcome}
+use Rattle.sip_agent_laws.proofs.agents.ClientsHeld.{Abandons, Holds, IsCommanded, is_invite_key}
+use Rattle.sip_agent_laws.proofs.agents.Apart.{starts_from}
+use Rattle.sip_agent_laws.proofs.agents.CallHeld.{tick_asked}
+use Rattle.sip_agent_laws.proofs.agents.Commands.{IsAbandonOf}
+use Rattle.sip_agent_laws.proofs.agents.EndTold.{IsTold, items_told, told_right}
+use Rattle.sip_agent_laws.proofs.agents.Going.{GoesOn, HandsUp, IsGoing, IsNew, ends_ticked, goes_run, going_new, items_then, new_run, none_at, none_then, ticked}
+use Rattle.sip_agent_laws.proofs.agents.Items.{item_given, requests_among, up_among}
+use Rattle.sip_agent_laws.proofs.agents.Linked.{IsLinked, after_is, calls_in, calls_ticked, came_in, first_items, first_ticks, given, given_is, items, items_are, lives_between, lives_in, lives_ticked, no_events, second_items, second_own_items, second_ticks, starts_are}
+use Rattle.sip_agent_laws.proofs.agents.LinkedRounds.{IsFair, all_fair, fair_next, linked_next, nothing_linked}
+use Rattle.sip_agent_laws.proofs.agents.Lists.{Among, among_flat, among_kept, among_left, among_mapped, among_right}
+use Rattle.sip_agent_laws.proofs.agents.OpenLives.{is_server}
+use Rattle.sip_agent_laws.proofs.agents.SecondPhase.{fewer_counted, no_abandon, orders, says}
+use Rattle.sip_agent_laws.proofs.transactions.Inputs.{HeldIn}
+
+-- ---- the transaction of a command
+
+module _ (k : Key) where
+  pub is_commanded : has_command (method_in k) ≡ false → IsCommanded k
+  is_commanded none = record {
+    prack = λ same. false≢true (sym none ∙ sym (ap has_command same));
+    cancel = λ same. false≢true (sym none ∙ sym (ap has_command same));
+  }
+
+  pub no_invite : role_of k ≡ role.Client → is_invite_key k ≡ false
+  no_invite client = by_key k client
+    where
+      by_key : (k : Key) → role_of k ≡ role.Client → is_invite_key k ≡ false
+      by_key (key.Client branch method) client =
+          by_bool (is_same_method method (codes "INVITE"))
+          (λ hit. absurd (invites (sym (ap (λ b. cond b role.InviteClient role.Client) hit)
+          ∙ client)))
+          (λ miss. miss)
+        where
+          invites : role.InviteClient ≡ role.Client → ⊥
+          invites same = absurd cc
+      by_key (key.Server branch sent_by method) client =
+          by_bool (is_same_method method (codes "INVITE"))
+          (λ hit. absurd (invites (sym (ap (λ b. cond b role.InviteServer role.Server) hit)
+          ∙ client)))
+          (λ miss. absurd (serves (sym (ap (λ b. cond b role.InviteServer role.Server) miss)
+          ∙ client)))
+        where
+          invites : role.InviteServer ≡ role.Client → ⊥
+          invites same = absurd cc
+
+          serves : role.Server ≡ role.Client → ⊥
+          serves same = absurd cc
+
+-- ---- what comes up at a tick is given to the calls
+
+some_speaks : (outs : List Out) (o : Out) → Among outs o → speaks outs ≡ true
+some_speaks [] o among = absurd among
+some_speaks (x ∷ outs) o among = refl
+
+named_key : (keys : List Key) (k : Key) → list_any (is_at (key_cmp k)) keys ≡ true → Among keys k
+named_key [] k is = absurd (false≢true is)
+named_key (q ∷ keys) k is =
+    by_bool (is_at (key_cmp k) q)
+    (λ hit. inl (sym (exact_at keys_total exact_keys k q hit)))
+    (λ miss. inr (named_key keys k (sym (ap (λ b. b || list_any (is_at (key_cmp k)) keys) miss)
+    ∙ is)))
+
+raised_up : (id : Id) (outs : List Out) (up : AnUp) → Among outs (out.Up up)
+    → Among (flat_map (raised_of id) outs) (id, Up up)
+raised_up id outs up among =
+    among_flat (raised_of id) outs (out.Up up) (id, Up up) among (inl refl)
+
+-- ---- commands
+
+-- no command gives the transaction up
+abbrev AreKept : Key → List (Id × Command) → Type 0
+AreKept k cs = AllByRecursion (λ (c : Id × Command). IsAbandonOf k c.1 → ⊥) cs
+
+-- a command that gives it up would come to it
+kept_orders : (k : Key) (now : ℕ) (cs : List (Id × Command)) (at : ℕ)
+    → list_any (λ (timed : Timed Input). is_abandon timed.input)
+    (own_items key_cmp (timed_items now (command_items at cs)) k) ≡ false → AreKept k cs
+kept_orders k now [] at none = tt
+kept_orders k now ((own, c) ∷ cs) at none =
+    by_bool (is_at (key_cmp (command_key c)) k)
+    (λ hit.
+    let mine : (is_abandon (Some (asked_by own c)) || rest) ≡ false =
+    sym (ap (λ b. any (map (λ (item : model.Item Key (Timed Input)). item.input)
+    (cond b (this ∷ others) others))) hit) ∙ none in (
+      λ gives. one c gives (first_false _ rest mine),
+      kept_orders k now cs (suc at) (second_false _ rest mine),
+    ))
+    (λ miss. (
+      λ gives. false≢true (sym miss ∙ its_own c gives),
+      kept_orders k now cs (suc at) (sym (ap (λ b. any (map
+          (λ (item : model.Item Key (Timed Input)). item.input)
+          (cond b (this ∷ others) others))) miss) ∙ none),
+    ))
+  where
+    any : List (Timed Input) → Bool
+    any inputs = list_any (λ (timed : Timed Input). is_abandon timed.input) inputs
+
+    this : model.Item Key (Timed Input)
+    this = record {
+      place = at;
+      key = command_key c;
+      input = record { moment = now; input = Some (asked_by own c) };
+    }
+
+    others : List (model.Item Key (Timed Input))
+    others = filter (λ item. is_at (key_cmp item.key) k)
+        (timed_items now (command_items (suc at) cs))
+
+    rest : Bool
+    rest = any (own_items key_cmp (timed_items now (command_items (suc at) cs)) k)
+
+    first_false : (a b : Bool) → (a || b) ≡ false → a ≡ false
+    first_false true b e = e
+    first_false false b e = refl
+
+    second_false : (a b : Bool) → (a || b) ≡ false → b ≡ false
+    second_false true b e = absurd (false≢true (sym e))
+    second_false false b e = e
+
+    one : (c : Command) → IsAbandonOf k c → is_abandon (Some (asked_by own c)) ≡ false → ⊥
+    one (order.Start key call_id message to) gives kept = gives
+    one (order.Answer key message) gives kept = gives
+    one (order.Abandon key) gives kept = false≢true (sym kept)
+
+    its_own : (c : Command) → IsAbandonOf k c → is_at (key_cmp (command_key c)) k ≡ true
+    its_own (order.Start key call_id message to) gives = absurd gives
+    its_own (order.Answer key message) gives = absurd gives
+    its_own (order.Abandon key) gives =
+        ap (λ q. is_at (key_cmp q) k) gives ∙ is_at_itself keys_total k
+
+given_order : (outs : List CallOut) (k : Key) → AreKept k (orders outs) → Abandons k outs → ⊥
+given_order outs k kept gone = no_abandon k outs gone kept
+
+-- ---- one round
+
+module _ (config : Config) (number : ℕ) (past : Past) (round : Round) where
+  abbrev now_at : ℕ
+  now_at = round.moment
+
+  abbrev next_past : Past
+  next_past = past_after config number past round
+
+  tick_given : (k : Key) (life : Life) → lives_in past k ≡ Some life → (up : AnUp)
+      → Among (adds transaction_machine k (lives_in past k) (tick_at now_at)) (out.Up up)
+      → (id : Id) × Among (items config number past round) (id, Up up)
+  tick_given k life is up among =
+      let says_at : Key → List Out =
+      λ q. adds transaction_machine q (lives_in past q) (tick_at now_at) in
+      let keys = keys_of_phases key_cmp past.transactions in
+      let some = named_key keys k ((phases_cover key_cmp transaction_machine life_due tick_at
+      ticks_are_idle keys_total past.transactions).each k
+      (subst (λ (o : Option Life). IsSome o) (sym is) refl)) in
+      let group : Among (first_ticks config number past round) (k, says_at k) =
+      among_mapped (λ q. (q, says_at q)) (filter (λ q. speaks (says_at q)) keys) k
+      (among_kept (λ q. speaks (says_at q)) keys k some
+      (some_speaks (says_at k) (out.Up up) among)) in
+      let there : Among (joined (first_ticks config number past round)) (out.Up up) =
+      among_flat (λ (said : Key × List Out). said.1) (first_ticks config number past round)
+      (k, says_at k) (out.Up up) group among in
+      let zero : Id = record { round = number; place = 0 } in (
+        zero,
+        subst (λ (all : List (Id × Item)). Among all (zero, Up up))
+            (sym (items_are config number past round))
+            (among_left (flat_map (raised_of zero) (joined (first_ticks config number past round)))
+            _ (zero, Up up)
+            (raised_up zero (joined (first_ticks config number past round)) up there)),
+      )
+
+  module _ (rounds : List Round) (said : List (Id × Key)) (came : List Id)
+      (fair : IsFair config number past (round ∷ rounds) said came)
+      (linked : IsLinked config past said came) (k : Key) (client : role_of k ≡ role.Client)
+      (commanded : IsCommanded k) (id : Id) (call_id : List ℕ) (end : ℕ) where
+    abbrev Goes : Option Life → Type 0
+    Goes held = GoesOn k client id call_id end held
+
+    abbrev Hands : List Out → Type 0
+    Hands outs = HandsUp k id call_id outs
+
+    serves : is_server (role_of k) ≡ false
+    serves = ap is_server client
+
+    -- what comes up is told, since its call holds the request
+    up_told : (life : Life) → lives_in past k ≡ Some life → IsGoing k client id call_id end life
+        → AreKept k (orders (given config number past round)) → (up : AnUp) → up.id ≡ id
+        → up.call_id ≡ call_id → is_outcome up.kind ≡ true → (event : Id)
+        → Among (items config number past round) (event, Up up)
+        → IsTold id (given config number past round)
+    up_told life is going kept up id_is call_is outcome event among =
+        let item = item_given now_at 0 (items config number past round) (event, Up up) among in
+        let mine : Holds k id (side_held (calls_in config past call_id)).clients =
+        subst (λ (named : Id × List ℕ). Holds k named.0
+        (side_held (calls_in config past named.1)).clients)
+        (λ i. (going.id_is i, going.call_is i))
+        (linked.asked k commanded serves life is going.still) in
+        let outs = says (calls_of config) k now_at (calls_ticked config number past round)
+        (second_items config number past round) in
+        let first_outs = joined (second_ticks config number past round) in
+        let parts = given_is config number past round k in
+        let started : Among said (id, k) =
+        subst (λ i. Among said (i, k)) going.id_is (linked.started k serves life is) in
+        subst (IsTold id) (sym parts)
+        (told_right id first_outs outs
+        (items_told (calls_of config) k now_at commanded serves (no_invite k client) id call_id
+        (second_items config number past round) (calls_ticked config number past round) said
+        (λ q. (each_notice_is_own (calls_of config) q (calls_in config past q) None now_at
+        (own_call q) tt).0)
+        (second_own_items config number past round)
+        (λ x. once_now x outs (starts_are config number past round k))
+        (λ gone. given_order (given config number past round) k kept (
+          gone.0,
+          subst (λ os. Among os gone.0) (sym parts)
+              (among_right first_outs outs gone.0 gone.1),
+          gone.2,
+        ))
+        started
+        (tick_asked k id commanded (calls_of config) (calls_in config past call_id) now_at mine)
+        item.0 item.1 (item.2 ∙ call_is)
+        (record { event = event; up = up; is = item.3; id_is = id_is; outcome = outcome })))
+      where
+        own_call : (q : List ℕ) → IsCallOf q (calls_in config past q)
+        own_call q = fair.own_calls q
+
+        once_now : (x : Id) (outs : List CallOut)
+            → starts (given config number past round) ≡ starts outs
+            → how_many x (ids_of (said ++ starts outs)) ≤ 1
+        once_now x outs same =
+            subst (λ more. how_many x (ids_of (said ++ more)) ≤ 1) same
+            (fewer_counted x (said ++ starts (given config number past round))
+            (starts_from config (suc number) next_past rounds)
+            (subst (λ all. how_many x (ids_of all) ≤ 1)
+            (sym (append_assoc said (starts (given config number past round))
+            (starts_from config (suc number) next_past rounds))) (fair.once x)))
+
+    -- it goes on, unless timer F is due; or the user is told of its outcome
+    pub round_goes : AreKept k (orders (given config number past round))
+        → Goes (lives_in past k)
+        → (Goes (lives_in next_past k) × (nat_le end now_at ≡ true → ⊥))
+        ⊎ IsTold id (given config number past round)
+    round_goes kept (life, is, going) =
+        let goes : Goes (lives_in past k) = (life, is, going) in
+        ⊎_elim
+        (λ on. ⊎_elim
+        (λ between. inl (
+          subst Goes (sym (after_is config number past round k))
+              (goes_run k client id call_id end now_at (orders (given config number past round))
+              (lives_between config number past round k) kept between),
+          λ late. ends_ticked k client id call_id end (lives_in past k) now_at late goes on,
+        ))
+        (λ hands.
+        let there = up_among now_at number (lives_ticked config number past round)
+        (came_in config number past round) (first_ticks config number past round) hands.up
+        hands.among in
+        inr (up_told life is going kept hands.up hands.id_is hands.call_is hands.outcome there.0
+        (subst (λ (all : List (Id × Item)). Among all (there.0, Up hands.up))
+        (sym (items_are config number past round)) there.1)))
+        (items_then k client id call_id end (first_items config number past round)
+        (lives_ticked config number past round) (no_events config number past round) on))
+        (λ hands.
+        let there = tick_given k life is hands.up hands.among in
+        inr (up_told life is going kept hands.up hands.id_is hands.call_is hands.outcome there.0
+        there.1))
+        (ticked k client id call_id end (lives_in past k) now_at goes)
+
+  -- what is told is among the outputs
+  pub told_given : (id : Id) → IsTold id (given_second config number past round)
+      → (o : Output) × Among (answer config number past round) o × (tells_outcome id o ≡ true)
+  told_given id (call_out.Notice notice, among, is) =
+      let told = said_by_transactions past.transactions (first config number past round) in
+      let one = sent_first told (arrivals config number past round) in
+      let shown = flat_map call_outputs (given_second config number past round) in
+      let last = flat_map sent_of (all_said (said_by_transactions
+      (past.transactions ++ first config number past round ∷ []) (third config number past round)))
+      in (
+        output.Notice notice,
+        subst (λ all. Among all (output.Notice notice))
+            (sym (answer_parts config number past round))
+            (among_left (one ++ shown) last (output.Notice notice)
+            (among_right one shown (output.Notice notice)
+            (among_flat call_outputs (given_second config number past round)
+            (call_out.Notice notice) (output.Notice notice) among (inl refl)))),
+        is,
+      )
+  told_given id (call_out.Command own c, among, is) = absurd (false≢true is)
+  told_given id (call_out.Direct to bytes, among, is) = absurd (false≢true is)
+
+-- ---- all rounds
+
+abbrev any_abandon : List (Timed Input) → Bool
+any_abandon inputs = list_any (λ timed. is_abandon timed.input) inputs
+
+first_part : (xs ys : List (Timed Input)) → any_abandon (xs ++ ys) ≡ false
+    → any_abandon xs ≡ false
+first_part [] ys none = refl
+first_part (x ∷ xs) ys none =
+    by_bool (is_abandon x.input)
+    (λ hit. absurd (false≢true (sym none ∙ ap (λ b. b || any_abandon (xs ++ ys)) hit)))
+    (λ miss. ap (λ b. b || any_abandon xs) miss
+    ∙ first_part xs ys (sym (ap (λ b. b || any_abandon (xs ++ ys)) miss) ∙ none))
+
+last_part : (xs ys : List (Timed Input)) → any_abandon (xs ++ ys) ≡ false
+    → any_abandon ys ≡ false
+last_part [] ys none = none
+last_part (x ∷ xs) ys none =
+    by_bool (is_abandon x.input)
+    (λ hit. absurd (false≢true (sym none ∙ ap (λ b. b || any_abandon (xs ++ ys)) hit)))
+    (λ miss. last_part xs ys (sym (ap (λ b. b || any_abandon (xs ++ ys)) miss) ∙ none))
+
+-- what the transaction is given in phases
+abbrev given_to : List (Phase Key (Timed Input)) → Key → List (Timed Input)
+given_to phases k = history key_cmp tick_at phases k
+
+two_parts : (xs ys : List (Phase Key (Timed Input))) (k : Key)
+    → given_to (xs ++ ys) k ≡ given_to xs k ++ given_to ys k
+two_parts xs ys k =
+    flat_map-append (λ (phase : Phase Key (Timed Input)). own_inputs key_cmp tick_at phase k) xs ys
+
+module _ (config : Config) (k : Key) where
+  abbrev IsKept : Past → Type 0
+  IsKept past = any_abandon (given_to past.transactions k) ≡ false
+
+  one_kept : (number : ℕ) (past : Past) (round : Round)
+      → IsKept (past_after config number past round)
+      → IsKept past × AreKept k (orders (given_second config number past round))
+  unfolding past_after third
+  one_kept number past round none =
+      let one = first config number past round ∷ [] in
+      let last = third config number past round ∷ [] in
+      let parts = two_parts (past.transactions ++ one) last k in
+      let whole : any_abandon (given_to (past.transactions ++ one) k ++ given_to last k) ≡ false =
+      sym (ap any_abandon parts) ∙ none in
+      let mine = own_items key_cmp (timed_items round.moment
+      (command_items 0 (orders (given_second config number past round)))) k in
+      let end : any_abandon mine ≡ false =
+      first_part mine []
+      (last_part (given_to (past.transactions ++ one) k) (given_to last k) whole) in (
+        first_part (given_to past.transactions k) (given_to one k)
+            (sym (ap any_abandon (two_parts past.transactions one k))
+            ∙ first_part (given_to (past.transactions ++ one) k) (given_to last k) whole),
+        kept_orders k round.moment (orders (given_second config number past round)) 0 end,
+      )
+
+  all_kept : (rounds : List Round) (number : ℕ) (past : Past)
+      → IsKept (past_from config number past rounds) → IsKept past
+  all_kept [] number past none = none
+  all_kept (round ∷ rounds) number past none =
+      (one_kept number past round
+      (all_kept rounds (suc number) (past_after config number past round) none)).0
+
+  -- the number of the round after these
+  abbrev pub number_from : ℕ → List Round → ℕ
+  number_from number [] = number
+  number_from number (round ∷ rounds) = number_from (suc number) rounds
+
+  pub past_parts : (rounds more : List Round) (number : ℕ) (past : Past)
+      → past_from config number past (rounds ++ more)
+      ≡ past_from config (number_from number rounds) (past_from config number past rounds) more
+  past_parts [] more number past = refl
+  past_parts (round ∷ rounds) more number past =
+      past_parts rounds more (suc number) (past_after config number past round)
+
+  answer_sides : (rounds more : List Round) (number : ℕ) (past : Past)
+      → each_from answer config number past (rounds ++ more)
+      ≡ each_from answer config number past rounds
+      ++ each_from answer config (number_from number rounds) (past_from config number past rounds)
+      more
+  answer_sides [] more number past = refl
+  answer_sides (round ∷ rounds) more number past =
+      ap (λ rest. answer config number past round ∷ rest)
+      (answer_sides rounds more (suc number) (past_after config number past round))
+
+  -- what is linked after rounds
+  pub walk : (rounds more : List Round) (number : ℕ) (past : Past) (said : List (Id × Key))
+      (came : List Id) → IsFair config number past (rounds ++ more) said came
+      → IsLinked config past said came
+      → (all : List (Id × Key)) × (every : List Id)
+      × IsFair config (number_from number rounds) (past_from config number past rounds) more all
+      every
+      × IsLinked config (past_from config number past rounds) all every
+      × (all ≡ said ++ starts_from config number past rounds)
+  walk [] more number past said came fair linked =
+      (said, came, fair, linked, sym (append-nil said))
+  walk (round ∷ rounds) more number past said came fair linked =
+      let next = past_after config number past round in
+      let here = starts (given_second config number past round) in
+      let rest = walk rounds more (suc number) next
+      (said ++ starts (given_second config number past round))
+      (came ++ requests_among (items_of_round config number past round))
+      (fair_next config number past round (rounds ++ more) said came fair)
+      (linked_next config number past round (rounds ++ more) said came fair linked) in (
+        rest.0,
+        rest.1,
+        rest.2,
+        rest.3,
+        rest.4 ∙ append_assoc said here (starts_from config (suc number) next rounds),
+      )
+
+  -- one of the outputs tells of the outcome
+  abbrev Tells : Id → ℕ → Past → List Round → Type 0
+  Tells id number past rounds = (o : Output)
+      × Among (all_given (each_from answer config number past rounds)) o
+      × (tells_outcome id o ≡ true)
+
+  module _ (client : role_of k ≡ role.Client) (commanded : IsCommanded k) (id : Id)
+      (call_id : List ℕ) (end : ℕ) where
+    later_told : (rounds : List Round) (number : ℕ) (past : Past) (said : List (Id × Key))
+        (came : List Id) → IsFair config number past rounds said came
+        → IsLinked config past said came → IsKept (past_from config number past rounds)
+        → GoesOn k client id call_id end (lives_in past k) → reaches end rounds
+        → Tells id number past rounds
+    later_told [] number past said came fair linked none goes reached =
+        absurd (false≢true reached)
+    later_told (round ∷ rounds) number past said came fair linked none goes reached =
+        let next = past_after config number past round in
+        let kept = one_kept number past round (all_kept rounds (suc number) next none) in
+        let here = answer config number past round in
+        let rest = all_given (each_from answer config (suc number) next rounds) in
+        ⊎_elim
+        (λ on.
+        let later = later_told rounds (suc number) next
+        (said ++ starts (given_second config number past round))
+        (came ++ requests_among (items_of_round config number past round))
+        (fair_next config number past round rounds said came fair)
+        (linked_next config number past round rounds said came fair linked) none on.0
+        (by_bool (nat_le end round.moment) (λ late. absurd (on.1 late))
+        (λ early. sym (ap (λ b. b || list_any (λ r. nat_le end r.moment) rounds) early)
+        ∙ reached)) in
+        (later.0, among_right here rest later.0 later.1, later.2))
+        (λ told.
+        let one = told_given config number past round id told in
+        (one.0, among_left here rest one.0 one.1, one.2))
+        (round_goes config number past round rounds said came fair linked k client commanded id
+        call_id end kept.1 goes)
+
+one_counted : {X : Type 0} (test : X → Bool) (xs : List X) (x : X) → Among xs x
+    → test x ≡ true → 1 ≤ count_by test xs
+one_counted test [] x among is = absurd among
+one_counted test (y ∷ ys) x (inl same) is =
+    omega (
+      arith,
+      sum_by-cons (λ z. cond {A = ℕ} (test z) 1 0) y ys,
+      ap (λ b. cond {A = ℕ} b 1 0) (ap test same ∙ is),
+    )
+one_counted test (y ∷ ys) x (inr later) is =
+    omega (
+      arith,
+      sum_by-cons (λ z. cond {A = ℕ} (test z) 1 0) y ys,
+      one_counted test ys x later is,
+    )
+
+pub each_has_an_outcome : (config : Config) (earlier later : List Round) (round : Round)
+    (key : Key) (id : Id) → Sends config earlier round key id
+    → is_given_up config (earlier ++ round ∷ later) key ≡ false
+    → reaches (round.moment + 64 * T1) later
+    → 1 ≤ outcomes_told config (earlier ++ round ∷ later) id
+unfolding past_of answers
+each_has_an_outcome config earlier later round key id sends kept reached =
+    let start = config.first in
+    let number = number_from config key start earlier in
+    let past = past_from config start no_past earlier in
+    let next = past_after config number past round in
+    let more = round ∷ later in
+    let client = sends.other in
+    let commanded = is_commanded key sends.commanded in
+    let now = round.moment in
+    let before = walk config key earlier more start no_past [] []
+    (all_fair config (earlier ++ more)) (nothing_linked config) in
+    let said = before.0 in
+    let came = before.1 in
+    let fair = before.2 in
+    let linked = before.3 in
+    let none : lives_in past key ≡ None = sends.none_before in
+    let between : lives_between config number past round key ≡ None =
+    none_then key client now (first_items config number past round)
+    (lives_ticked config number past round) (no_events config number past round)
+    (none_at key client now (lives_in past key) None now tt none) in
+    let new : HeldIn (IsNew key client now) (lives_in next key) =
+    subst (HeldIn (IsNew key client now)) (sym (after_is config number past round key))
+    (new_run key client now (orders (given config number past round))
+    (lives_between config number past round key)
+    (subst (HeldIn (IsNew key client now)) (sym between) tt)) in
+    let is : lives_in next key ≡ Some sends.life =
+    ap (λ p. lives_in p key) (sym (past_parts config key earlier (round ∷ []) start no_past))
+    ∙ sends.begins in
+    let life = sends.life in
+    let going = going_new key client now (lives_in next key) life is new in
+    let kept_all : IsKept config key (past_from config (suc number) next later) =
+    sym (ap (λ (p : Past). any_abandon (given_to p.transactions key))
+    (past_parts config key earlier more start no_past)) ∙ kept in
+    let told = later_told config key client commanded life.context.id life.context.call_id
+    (now + LIFETIME) later (suc number) next
+    (said ++ starts (given_second config number past round))
+    (came ++ requests_among (items_of_round config number past round))
+    (fair_next config number past round later said came fair)
+    (linked_next config number past round later said came fair linked) kept_all
+    (life, is, going) reached in
+    let parts = answer_sides config key earlier more start no_past in
+    let first_given = all_given (each_from answer config start no_past earlier) in
+    let here = answer config number past round in
+    let rest = all_given (each_from answer config (suc number) next later) in
+    let among : Among (all_given (each_from answer config start no_past (earlier ++ more))) told.0 =
+    subst (λ outs. Among outs told.0)
+    (sym (ap all_given parts
+    ∙ flat_map-append (λ outputs. outputs) (each_from answer config start no_past earlier)
+    (each_from answer config number past more)))
+    (among_right first_given (here ++ rest) told.0 (among_right here rest told.0 told.1)) in
+    one_counted (tells_outcome id) _ told.0 among
+    (ap (λ i. tells_outcome i told.0) (sym sends.id_is) ∙ told.2)

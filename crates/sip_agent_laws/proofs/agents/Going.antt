@@ -1,0 +1,579 @@
+-- A client transaction of a request other than INVITE goes on without a final response, or hands up
+-- its outcome.
+use Rattle.std.proofs.Common.{◌≡◌, ◌⊎◌, inl, inr, ⊎_elim, ℕ, ◌+◌, ◌≤◌, Bool, true, false, cond, ◌&&◌, ◌||◌, List, [], ◌∷◌, ◌++◌, refl, sym, ap, ◌∙◌, subst, arith, append-nil, zero-add}
+use Rattle.std.specs.Prelude.{not, nat_le, Option, None, Some, option_map, option_to_list}
+use Rattle.std.specs.BTreeMap.{is_at}
+use Rattle.std.specs.List.{AllByRecursion}
+use Rattle.std.proofs.lemmas.Bool.{false≢true}
+use Rattle.std.proofs.lemmas.List.Sums.{sum_by-cons}
+use Rattle.sip_message.specs.declared.addr.Addr.{Addr}
+use Rattle.sip_message.specs.declared.id.Id.{Id}
+use Rattle.sip_message.specs.declared.key.Key.{Key}
+use Rattle.sip_message.specs.declared.message.Message.{Message}
+use Rattle.sip_message.specs.declared.start_line.StartLine.{StartLine}
+use Rattle.sip_message.specs.declared.start_line.StartLine.TheVariants as start
+use Rattle.sip_message.specs.Key.{key_cmp, keys_total}
+use Rattle.sip_message.specs.Keys.{exact_keys}
+use Rattle.sip_timers.specs.declared.estimate.TheConstants.{LIFETIME}
+use Rattle.keyed_machine.specs.declared.item.Item.{Item}
+use Rattle.keyed_machine.specs.Machine.{Timed, adds, next, tick_at}
+use Rattle.keyed_machine.specs.Phase.{states_then}
+use Rattle.keyed_machine.proofs.Ordered.{by_bool, exact_at}
+use Rattle.sip_transactions.specs.declared.input.Command.{Command}
+use Rattle.sip_transactions.specs.declared.input.Command.TheVariants as order
+use Rattle.sip_transactions.specs.declared.input.Input.{Input}
+use Rattle.sip_transactions.specs.declared.input.Input.TheVariants.{Receive, Start, Answer, Failed, Abandon}
+use Rattle.sip_transactions.specs.declared.life.Context.{Context}
+use Rattle.sip_transactions.specs.declared.life.Life.{Life}
+use Rattle.sip_transactions.specs.declared.output.Out.{Out}
+use Rattle.sip_transactions.specs.declared.output.Out.TheVariants as out
+use Rattle.sip_transactions.specs.declared.output.Up.{Up as AnUp}
+use Rattle.sip_transactions.specs.declared.state.Role.{Role}
+use Rattle.sip_transactions.specs.declared.state.Role.TheVariants as role
+use Rattle.sip_transactions.specs.declared.state.State.{State}
+use Rattle.sip_transactions.specs.declared.state.State.TheVariants.{Calling, Trying, Proceeding, Completed, Accepted, Confirmed}
+use Rattle.sip_transactions.specs.declared.step.Step.{Step}
+use Rattle.sip_transactions.specs.declared.step.UpAction.{UpAction}
+use Rattle.sip_transactions.specs.declared.step.UpAction.TheVariants as up
+use Rattle.sip_transactions.specs.declared.trigger.Trigger.{Trigger}
+use Rattle.sip_transactions.specs.declared.trigger.Trigger.TheVariants as on
+use Rattle.sip_transactions.specs.Machine.{transaction_machine}
+use Rattle.sip_transactions.specs.Rules.Step.{step_at}
+use Rattle.sip_transactions.specs.Shard.{asked_by, command_key}
+use Rattle.sip_transactions.specs.Steps.Input.{answer_of, arrived_in, class_of, is_abandon, role_of, trigger_of}
+use Rattle.sip_transactions.specs.Steps.Life.{state_of, stepped}
+use Rattle.sip_transactions.specs.Steps.Output.{handed_out, outputs_of, send_out}
+use Rattle.sip_transactions.proofs.Firings.{is_client}
+use Rattle.sip_transactions.proofs.LawSteps.{by_step}
+use Rattle.sip_transactions.proofs.Rules.{step_is}
+use Rattle.sip_agent_laws.specs.Agents.Open.{is_open}
+use Rattle.sip_agent_laws.specs.Transactions.Outcomes.{is_outcome, is_up, ups}
+use Rattle.sip_agent_laws.proofs.agents.Commands.{IsAbandonOf, ordered, run}
+use Rattle.sip_agent_laws.proofs.agents.FirstPhase.{AreArrivals, IsArrival, Items, States, all_of, after_item, no_start, tells}
+use Rattle.sip_agent_laws.proofs.agents.Lists.{Among, among_left, among_right, both, each_of}
+use Rattle.sip_agent_laws.proofs.agents.OpenLives.{is_server, lives_on}
+use Rattle.sip_agent_laws.proofs.transactions.Ends.{Asks, HasAsked, first_asks, is_invite_client, is_plain_client, lack, lacks, is_not, next_asks, pends, rest_enough, tick_asked}
+use Rattle.sip_agent_laws.proofs.transactions.Inputs.{HeldIn, begins, by_each, by_input, first_in, next_in, passes, rule}
+use Rattle.sip_agent_laws.proofs.transactions.Timed.{IsTimed, entered_passes, enters, implied, starts, stays}
+use Rattle.sip_agent_laws.proofs.transactions.Told.{finals, outcomes_count, score, tells as row_tells, ups-row}
+
+-- ---- outputs
+
+-- what comes up is of this transaction, under this id and this Call-ID
+abbrev pub IsNamed : Key → Id → List ℕ → Out → Type 0
+IsNamed k id call_id (out.Up up) = (up.key ≡ k) × (up.id ≡ id) × (up.call_id ≡ call_id)
+IsNamed k id call_id (out.Send key to bytes) = Unit {0}
+IsNamed k id call_id (out.Dropped place why) = Unit {0}
+
+sends_named : (k : Key) (id : Id) (call_id : List ℕ) (to : Addr) (bytes : Option (List ℕ))
+    → AllByRecursion (IsNamed k id call_id) (option_to_list (option_map (send_out k to) bytes))
+sends_named k id call_id to None = tt
+sends_named k id call_id to (Some bytes) = (tt, tt)
+
+handed_named : (k : Key) (life : Life) (handed : UpAction) (arrived : Option (Message × Addr))
+    → AllByRecursion (IsNamed k life.context.id life.context.call_id)
+    (option_to_list (handed_out k life.context handed arrived))
+unfolding handed_out
+handed_named k life up.Nothing arrived = tt
+handed_named k life up.Message None = tt
+handed_named k life up.Message (Some arrived) = ((refl, refl, refl), tt)
+handed_named k life up.Timeout arrived = ((refl, refl, refl), tt)
+handed_named k life up.Failed arrived = ((refl, refl, refl), tt)
+handed_named k life up.NoTransaction arrived = (tt, tt)
+
+pub all_named : (k : Key) (life : Life) (timed : Timed Input)
+    → AllByRecursion (IsNamed k life.context.id life.context.call_id)
+    (stepped k (Some life) timed).1
+unfolding outputs_of
+all_named k life timed =
+    by_step (λ after. AllByRecursion (IsNamed k life.context.id life.context.call_id) after.1) k
+    (Some life) timed tt tt
+    (λ step row. both (IsNamed k life.context.id life.context.call_id)
+    (option_to_list (handed_out k life.context step.handed (arrived_in timed.input))) _
+    (handed_named k life step.handed (arrived_in timed.input))
+    (sends_named k life.context.id life.context.call_id life.context.to _))
+
+-- the outcome of a request comes up
+pub record HandsUp (k : Key) (id : Id) (call_id : List ℕ) (outs : List Out) : Type 0 where
+  pub up : AnUp
+  pub among : Among outs (out.Up up)
+  pub key_is : up.key ≡ k
+  pub id_is : up.id ≡ id
+  pub call_is : up.call_id ≡ call_id
+  pub outcome : is_outcome up.kind ≡ true
+
+some_up : (outs : List Out) → (ups is_outcome outs ≡ 0)
+    ⊎ ((up : AnUp) × Among outs (out.Up up) × (is_outcome up.kind ≡ true))
+some_up [] = inl refl
+some_up (out.Up up ∷ outs) =
+    by_bool (is_outcome up.kind)
+    (λ one. inr (up, inl refl, one))
+    (λ none. ⊎_elim
+    (λ rest. inl (omega (
+      arith,
+      sum_by-cons (λ o. cond {A = ℕ} (is_up is_outcome o) 1 0) (out.Up up) outs,
+      ap (λ b. cond {A = ℕ} b 1 0) none,
+      rest,
+    )))
+    (λ later. inr (later.0, inr later.1, later.2)) (some_up outs))
+some_up (out.Send key to bytes ∷ outs) =
+    ⊎_elim
+    (λ rest. inl (sum_by-cons (λ o. cond {A = ℕ} (is_up is_outcome o) 1 0)
+    (out.Send key to bytes) outs ∙ (zero-add _ ∙ rest)))
+    (λ later. inr (later.0, inr later.1, later.2)) (some_up outs)
+some_up (out.Dropped place why ∷ outs) =
+    ⊎_elim
+    (λ rest. inl (sum_by-cons (λ o. cond {A = ℕ} (is_up is_outcome o) 1 0)
+    (out.Dropped place why) outs ∙ (zero-add _ ∙ rest)))
+    (λ later. inr (later.0, inr later.1, later.2)) (some_up outs)
+
+-- ---- a state without a final response
+
+pub open_lacks : (state : State) → is_open role.Client state ≡ lacks role.Client state
+open_lacks Calling = refl
+open_lacks Trying = refl
+open_lacks Proceeding = refl
+open_lacks Completed = refl
+open_lacks Accepted = refl
+open_lacks Confirmed = refl
+
+asks_open : (state : State) → is_open role.Client state ≡ true
+    → (lacks role.Client state && not (is_invite_client role.Client && pends state)) ≡ true
+asks_open Calling opened = opened
+asks_open Trying opened = refl
+asks_open Proceeding opened = refl
+asks_open Completed opened = opened
+asks_open Accepted opened = opened
+asks_open Confirmed opened = opened
+
+one_lacks : (b : Bool) → 1 ≤ cond {A = ℕ} b 1 0 → b ≡ true
+one_lacks true one = refl
+one_lacks false one = absurd (omega (arith, one))
+
+-- ---- commands of calls
+
+-- a start or a response of the user
+abbrev is_order : Trigger → Bool
+is_order on.Start = true
+is_order (on.Answer c) = true
+is_order _ = false
+
+abbrev quiet_order : Role → State → Trigger → Step → Bool
+quiet_order r state trigger step = not (is_plain_client r)
+    || (not (is_order trigger) || not (row_tells finals true true trigger step.handed))
+
+abbrev stays_open : Role → State → Trigger → Step → Bool
+stays_open r state trigger step = not (is_plain_client r)
+    || (not (is_order trigger) || (not (lacks r state) || enters (lacks r) (Some state) step))
+
+abbrev begins_open : Role → Trigger → Step → Bool
+begins_open r trigger step = not (is_plain_client r) || enters (lacks r) None step
+
+abbrev IsOrder : Option Input → Type 0
+IsOrder (Some (Start id call_id message to)) = Unit {0}
+IsOrder (Some (Answer id message)) = Unit {0}
+IsOrder _ = ⊥
+
+answers_order : (line : StartLine) (trigger : Trigger) → answer_of line ≡ Some trigger
+    → is_order trigger ≡ true
+answers_order (start.Request uri) trigger is = cc
+answers_order (start.Response status reason) trigger is =
+    let same : on.Answer (class_of status) ≡ trigger = cc in
+    sym (ap is_order same)
+
+ordered_so : (life : Life) (now : ℕ) (input : Option Input) → IsOrder input
+    → (trigger : Trigger) → trigger_of (Some life) now input ≡ Some trigger
+    → is_order trigger ≡ true
+ordered_so life now None order trigger is = absurd order
+ordered_so life now (Some (Receive id message reply_to)) order trigger is = absurd order
+ordered_so life now (Some (Failed id)) order trigger is = absurd order
+ordered_so life now (Some Abandon) order trigger is = absurd order
+ordered_so life now (Some (Start id call_id message to)) order trigger is =
+    let same : on.Start ≡ trigger = cc in
+    sym (ap is_order same)
+ordered_so life now (Some (Answer id message)) order trigger is =
+    answers_order message.start trigger is
+
+no_abandon_order : (input : Option Input) → IsOrder input → is_abandon input ≡ false
+no_abandon_order None order = absurd order
+no_abandon_order (Some (Receive id message reply_to)) order = refl
+no_abandon_order (Some (Failed id)) order = refl
+no_abandon_order (Some Abandon) order = absurd order
+no_abandon_order (Some (Start id call_id message to)) order = refl
+no_abandon_order (Some (Answer id message)) order = refl
+
+module _ (k : Key) (client : role_of k ≡ role.Client) (id : Id) (call_id : List ℕ) (end : ℕ) where
+  -- It has no final response yet. Its timer F fires at this moment.
+  pub record IsGoing (life : Life) : Type 0 where
+    pub still : is_open (role_of k) life.state ≡ true
+    pub id_is : life.context.id ≡ id
+    pub call_is : life.context.call_id ≡ call_id
+    pub timed : IsTimed (role_of k) life.state life.context
+    pub asks : Asks (role_of k) end life.state life.context
+
+  abbrev pub GoesOn : Option Life → Type 0
+  GoesOn held = (life : Life) × (held ≡ Some life) × IsGoing life
+
+  lacking : (life : Life) → IsGoing life → lack (role_of k) life.state ≡ 1
+  lacking life going =
+      ap (λ r. lack r life.state) client
+      ∙ ap (λ b. cond {A = ℕ} b 1 0) (sym (open_lacks life.state)
+      ∙ (ap (λ r. is_open r life.state) (sym client) ∙ going.still))
+
+  -- what is left of it goes on, if it has no final response
+  goes_on : (life : Life) (timed : Timed Input) → IsGoing life → (after : Option Life)
+      → (stepped k (Some life) timed).0 ≡ after
+      → 1 ≤ score (lack (role_of k)) (state_of after) → GoesOn after
+  goes_on life timed going None is one = absurd (omega (arith, one))
+  goes_on life timed going (Some left) is one = (
+    left,
+    refl,
+    record {
+      still = ap (λ r. is_open r left.state) client ∙ (open_lacks left.state
+          ∙ one_lacks (lacks role.Client left.state)
+          (subst (λ r. 1 ≤ lack r left.state) client one));
+      id_is = sym kept.0 ∙ going.id_is;
+      call_is = sym kept.1 ∙ going.call_is;
+      timed = subst (HeldIn (IsTimed (role_of k))) is (stays k life timed going.timed);
+      asks = subst (HeldIn (Asks (role_of k) end)) is (next_asks k end life timed going.asks);
+    },
+  )
+    where
+      no_none : Some life ≡ None → ⊥
+      no_none same = absurd cc
+
+      named : (before : Life) → Some life ≡ Some before → (before.context.id ≡ left.context.id)
+          → (before.context.call_id ≡ left.context.call_id)
+          → (life.context.id ≡ left.context.id) × (life.context.call_id ≡ left.context.call_id)
+      named before same id_is call_is =
+          let was : life ≡ before = cc in (
+            ap (λ (l : Life). l.context.id) was ∙ id_is,
+            ap (λ (l : Life). l.context.call_id) was ∙ call_is,
+          )
+
+      kept : (life.context.id ≡ left.context.id) × (life.context.call_id ≡ left.context.call_id)
+      kept =
+          ⊎_elim
+          (λ kept. named kept.before kept.was kept.id kept.call)
+          (λ begun. absurd (no_none begun.none))
+          (lives_on k (Some life) timed.moment timed.input left
+          (ap (λ (after : Option Life × List Out). after.0)
+          (step_is k (Some life) timed.moment timed.input) ∙ is))
+
+  -- an input: it goes on, or hands up its outcome
+  one_input : (life : Life) (timed : Timed Input) → is_abandon timed.input ≡ false → IsGoing life
+      → GoesOn (stepped k (Some life) timed).0
+      ⊎ HandsUp k id call_id (stepped k (Some life) timed).1
+  one_input life timed kept going =
+      let outs = (stepped k (Some life) timed).1 in
+      let after = (stepped k (Some life) timed).0 in
+      let enough = rest_enough k (ap is_client client) (Some life) (timed ∷ []) (kept, tt)
+      (refl, tt) in
+      ⊎_elim
+      (λ none. inl (goes_on life timed going after refl
+      (omega (arith, enough, lacking life going, none, ap (ups is_outcome) (append-nil outs)))))
+      (λ one. let named = each_of (IsNamed k life.context.id life.context.call_id) outs
+      (out.Up one.0) (all_named k life timed) one.1 in
+      inr (record {
+        up = one.0;
+        among = one.1;
+        key_is = named.0;
+        id_is = named.1 ∙ going.id_is;
+        call_is = named.2 ∙ going.call_is;
+        outcome = one.2;
+      }))
+      (some_up outs)
+
+  -- ---- the tick at which timer F fires
+
+  no_longer : (after : Option Life) → HeldIn (HasAsked (role_of k)) after → GoesOn after → ⊥
+  no_longer after asked (life, is, going) =
+      let asks : (lacks (role_of k) life.state
+      && not (is_invite_client (role_of k) && pends life.state)) ≡ true =
+      ap (λ r. lacks r life.state && not (is_invite_client r && pends life.state)) client
+      ∙ asks_open life.state (ap (λ r. is_open r life.state) (sym client) ∙ going.still) in
+      let over : HasAsked (role_of k) life.state life.context =
+      subst (HeldIn (HasAsked (role_of k))) is asked in
+      false≢true (sym over ∙ asks)
+
+  pub ends_at : (now : ℕ) → nat_le end now ≡ true → (life : Life) → IsGoing life
+      → GoesOn (stepped k (Some life) (tick_at now)).0 → ⊥
+  ends_at now late life going =
+      no_longer (stepped k (Some life) (tick_at now)).0
+      (tick_asked k end life now going.timed going.asks late)
+
+  -- ---- the inputs of the first phase
+
+  at_step : (life : Life) (now : ℕ) (input : Option Input)
+      → is_abandon input ≡ false → IsGoing life
+      → GoesOn (step_at k (Some life) now input).0
+      ⊎ HandsUp k id call_id (step_at k (Some life) now input).1
+  at_step life now input kept going =
+      subst (λ (after : Option Life × List Out). GoesOn after.0 ⊎ HandsUp k id call_id after.1)
+      (sym (step_is k (Some life) now input))
+      (one_input life (record { moment = now; input = input }) kept going)
+
+  held_step : (held : Option Life) (now : ℕ) (input : Option Input)
+      → is_abandon input ≡ false → GoesOn held
+      → GoesOn (step_at k held now input).0 ⊎ HandsUp k id call_id (step_at k held now input).1
+  held_step held now input kept (life, is, going) =
+      subst (λ h. GoesOn (step_at k h now input).0 ⊎ HandsUp k id call_id (step_at k h now input).1)
+      (sym is) (at_step life now input kept going)
+
+  pub ticked : (held : Option Life) (now : ℕ) → GoesOn held
+      → GoesOn (step_at k held now None).0 ⊎ HandsUp k id call_id (step_at k held now None).1
+  ticked held now goes = held_step held now None refl goes
+
+  pub ends_ticked : (held : Option Life) (now : ℕ) → nat_le end now ≡ true → GoesOn held
+      → GoesOn (step_at k held now None).0 → ⊥
+  ends_ticked held now late (life, is, going) goes =
+      ends_at now late life going
+      (subst GoesOn (ap (λ (after : Option Life × List Out). after.0)
+      (step_is k (Some life) now None))
+      (subst (λ h. GoesOn (step_at k h now None).0) is goes))
+
+  no_abandon : (input : Option Input) → IsArrival input → is_abandon input ≡ false
+  no_abandon None arrives = refl
+  no_abandon (Some (Receive id message reply_to)) arrives = refl
+  no_abandon (Some (Start id call_id message to)) arrives = refl
+  no_abandon (Some (Answer id message)) arrives = refl
+  no_abandon (Some (Failed id)) arrives = refl
+  no_abandon (Some Abandon) arrives = absurd arrives
+
+  is_key : (q : Key) → is_at (key_cmp q) k ≡ true → q ≡ k
+  is_key q hit = exact_at keys_total exact_keys q k hit
+
+  one_item : (states : States) (item : Item Key (Timed Input)) (hit : Bool)
+      → is_at (key_cmp item.key) k ≡ hit → IsArrival item.input.input → GoesOn (states k)
+      → GoesOn (cond hit (next transaction_machine item.key (states item.key) item.input)
+      (states k))
+      ⊎ HandsUp k id call_id (adds transaction_machine item.key (states item.key) item.input)
+  one_item states item true hit arrives goes =
+      let same = is_key item.key hit in
+      subst (λ q. GoesOn (next transaction_machine q (states q) item.input)
+      ⊎ HandsUp k id call_id (adds transaction_machine q (states q) item.input)) (sym same)
+      (held_step (states k) item.input.moment item.input.input
+      (no_abandon item.input.input arrives) goes)
+  one_item states item false miss arrives goes = inl goes
+
+  more_up : (outs more : List Out) → HandsUp k id call_id outs → HandsUp k id call_id (outs ++ more)
+  more_up outs more hands = record {
+    up = hands.up;
+    among = among_left outs more (out.Up hands.up) hands.among;
+    key_is = hands.key_is;
+    id_is = hands.id_is;
+    call_is = hands.call_is;
+    outcome = hands.outcome;
+  }
+
+  later_up : (outs more : List Out) → HandsUp k id call_id more
+      → HandsUp k id call_id (outs ++ more)
+  later_up outs more hands = record {
+    up = hands.up;
+    among = among_right outs more (out.Up hands.up) hands.among;
+    key_is = hands.key_is;
+    id_is = hands.id_is;
+    call_is = hands.call_is;
+    outcome = hands.outcome;
+  }
+
+  pub items_then : (items : Items) (states : States) → AreArrivals items → GoesOn (states k)
+      → GoesOn (states_then key_cmp transaction_machine states items k)
+      ⊎ HandsUp k id call_id (all_of (tells states items))
+  items_then [] states arrive goes = inl goes
+  items_then (item ∷ items) states arrive goes =
+      let here = adds transaction_machine item.key (states item.key) item.input in
+      let rest = all_of (tells (after_item states item) items) in
+      ⊎_elim
+      (λ on. ⊎_elim (λ still. inl still) (λ hands. inr (later_up here rest hands))
+      (items_then items (after_item states item) arrive.1 on))
+      (λ hands. inr (more_up here rest hands))
+      (one_item states item (is_at (key_cmp item.key) k) refl arrive.0 goes)
+
+  -- ---- the commands of the third phase
+
+  is_plain : is_plain_client (role_of k) ≡ true
+  is_plain = ap is_plain_client client
+
+  quietly : (life : Life) (timed : Timed Input) → IsOrder timed.input
+      → ups is_outcome (stepped k (Some life) timed).1 ≡ 0
+  quietly life timed order =
+      by_input (λ after. ups is_outcome after.1 ≡ 0) k life timed (λ given. refl)
+      (λ on. by_each (λ after. ups is_outcome after.1 ≡ 0) k life timed
+      (trigger_of (Some life) timed.moment timed.input) (λ none. refl)
+      (λ trigger is.
+      let step = rule (role_of k) life.state trigger in
+      ups-row is_outcome finals true true outcomes_count k life.context step (Some life)
+      timed.moment timed.input _ trigger is
+      ∙ ap (λ b. cond {A = ℕ} b 1 0)
+      (is_not (row_tells finals true true trigger step.handed)
+      (implied (is_order trigger) _ (ordered_so life timed.moment timed.input order trigger is)
+      (implied (is_plain_client (role_of k)) _ is_plain
+      (passes quiet_order refl (role_of k) life.state trigger))))))
+
+  one_order : (life : Life) (now : ℕ) (input : Input) → IsOrder (Some input) → IsGoing life
+      → GoesOn (step_at k (Some life) now (Some input)).0
+  one_order life now input order going =
+      let timed : Timed Input = record { moment = now; input = Some input } in
+      let outs = (stepped k (Some life) timed).1 in
+      let enough = rest_enough k (ap is_client client) (Some life) (timed ∷ [])
+      (no_abandon_order (Some input) order, tt) (refl, tt) in
+      subst (λ (after : Option Life × List Out). GoesOn after.0)
+      (sym (step_is k (Some life) now (Some input)))
+      (goes_on life timed going (stepped k (Some life) timed).0 refl
+      (omega (
+        arith,
+        enough,
+        lacking life going,
+        quietly life timed order,
+        ap (ups is_outcome) (append-nil outs),
+      )))
+
+  pub goes_ordered : (now : ℕ) (held : Option Life) (id : Id) (c : Command) → (IsAbandonOf k c → ⊥)
+      → GoesOn held → GoesOn (ordered k now held (id, c))
+  goes_ordered now held own c kept (life, is, going) =
+      by_bool (is_at (key_cmp (command_key c)) k)
+      (λ hit. subst (λ b. GoesOn (cond b (step_at k held now (Some (asked_by own c))).0 held))
+      (sym hit)
+      (subst (λ h. GoesOn (step_at k h now (Some (asked_by own c))).0) (sym is)
+      (by_command c kept hit)))
+      (λ miss. subst (λ b. GoesOn (cond b (step_at k held now (Some (asked_by own c))).0 held))
+      (sym miss) (life, is, going))
+    where
+      by_command : (c : Command) → (IsAbandonOf k c → ⊥)
+          → is_at (key_cmp (command_key c)) k ≡ true
+          → GoesOn (step_at k (Some life) now (Some (asked_by own c))).0
+      by_command (order.Start key call_id message to) kept hit =
+          one_order life now (Start own call_id message to) tt going
+      by_command (order.Answer key message) kept hit =
+          one_order life now (Answer own message) tt going
+      by_command (order.Abandon key) kept hit = absurd (kept (is_key key hit))
+
+  pub goes_run : (now : ℕ) (cs : List (Id × Command)) (held : Option Life)
+      → AllByRecursion (λ (c : Id × Command). IsAbandonOf k c.1 → ⊥) cs → GoesOn held
+      → GoesOn (run k now held cs)
+  goes_run now [] held kept goes = goes
+  goes_run now (c ∷ cs) held kept goes =
+      goes_run now cs (ordered k now held c) kept.1
+      (goes_ordered now held c.0 c.1 kept.0 goes)
+
+-- ---- the round in which it is sent
+
+module _ (k : Key) (client : role_of k ≡ role.Client) (now : ℕ) where
+  -- a life that begins now, if there is one
+  pub record IsNew (state : State) (context : Context) : Type 0 where
+    pub still : lacks (role_of k) state ≡ true
+    pub timed : IsTimed (role_of k) state context
+    pub asks : Asks (role_of k) (now + LIFETIME) state context
+
+  joined_in : (held : Option Life) → HeldIn (λ state context. lacks (role_of k) state ≡ true) held
+      → HeldIn (IsTimed (role_of k)) held → HeldIn (Asks (role_of k) (now + LIFETIME)) held
+      → HeldIn IsNew held
+  joined_in None still timed asks = tt
+  joined_in (Some life) still timed asks = record { still = still; timed = timed; asks = asks }
+
+  plain : is_plain_client (role_of k) ≡ true
+  plain = ap is_plain_client client
+
+  new_at : (held : Option Life) (input : Input) → IsOrder (Some input)
+      → HeldIn IsNew held
+      → HeldIn IsNew (stepped k held (record { moment = now; input = Some input })).0
+  new_at None input order new =
+      let timed : Timed Input = record { moment = now; input = Some input } in
+      joined_in (stepped k None timed).0
+      (first_in (λ state context. lacks (role_of k) state ≡ true) k timed
+      (λ trigger step is row context calm next into.
+      entered_passes (lacks (role_of k)) None next step
+      (implied (is_plain_client (role_of k)) _ plain
+      (begins begins_open refl (role_of k) trigger step row)) into))
+      (starts k timed) (first_asks k timed)
+  new_at (Some life) input order new =
+      let timed : Timed Input = record { moment = now; input = Some input } in
+      joined_in (stepped k (Some life) timed).0
+      (next_in (λ state context. lacks (role_of k) state ≡ true) k life timed new.still
+      (λ trigger is next into.
+      entered_passes (lacks (role_of k)) (Some life.state) next
+      (rule (role_of k) life.state trigger)
+      (implied (lacks (role_of k) life.state) _ new.still
+      (implied (is_order trigger) _ (ordered_so life now (Some input) order trigger is)
+      (implied (is_plain_client (role_of k)) _ plain
+      (passes stays_open refl (role_of k) life.state trigger)))) into))
+      (stays k life timed new.timed) (next_asks k (now + LIFETIME) life timed new.asks)
+
+  abandoned : (held : Option Life) → HeldIn IsNew held
+      → HeldIn IsNew (step_at k held now (Some Abandon)).0
+  unfolding step_at
+  abandoned held new = tt
+
+  new_ordered : (held : Option Life) (c : Id × Command) → HeldIn IsNew held
+      → HeldIn IsNew (ordered k now held c)
+  new_ordered held (own, c) new =
+      by_bool (is_at (key_cmp (command_key c)) k)
+      (λ hit. subst (λ b. HeldIn IsNew (cond b (step_at k held now (Some (asked_by own c))).0 held))
+      (sym hit) (by_command c))
+      (λ miss. subst
+      (λ b. HeldIn IsNew (cond b (step_at k held now (Some (asked_by own c))).0 held))
+      (sym miss) new)
+    where
+      at : (input : Input) → IsOrder (Some input)
+          → HeldIn IsNew (step_at k held now (Some input)).0
+      at input order =
+          subst (λ (after : Option Life × List Out). HeldIn IsNew after.0)
+          (sym (step_is k held now (Some input))) (new_at held input order new)
+
+      by_command : (c : Command) → HeldIn IsNew (step_at k held now (Some (asked_by own c))).0
+      by_command (order.Start key call_id message to) = at (Start own call_id message to) tt
+      by_command (order.Answer key message) = at (Answer own message) tt
+      by_command (order.Abandon key) = abandoned held new
+
+  pub new_run : (cs : List (Id × Command)) (held : Option Life) → HeldIn IsNew held
+      → HeldIn IsNew (run k now held cs)
+  new_run [] held new = new
+  new_run (c ∷ cs) held new = new_run cs (ordered k now held c) (new_ordered held c new)
+
+  -- what arrives begins no client
+  none_left : (o : Option Life) → ((life : Life) → o ≡ Some life → ⊥) → o ≡ None
+  none_left None never = refl
+  none_left (Some life) never = absurd (never life refl)
+
+  serves_none : is_server (role_of k) ≡ false
+  serves_none = ap is_server client
+
+  pub none_at : (held : Option Life) (input : Option Input) (at : ℕ) → IsArrival input → held ≡ None
+      → (step_at k held at input).0 ≡ None
+  none_at held input at arrives none =
+      none_left (step_at k held at input).0 (λ life is. ⊎_elim
+      (λ kept. no_some kept.before (sym none ∙ kept.was))
+      (λ begun. no_start k held input (step_at k held at input).1 life arrives serves_none begun)
+      (lives_on k held at input life is))
+    where
+      no_some : (life : Life) → None ≡ Some life → ⊥
+      no_some life same = absurd cc
+
+  pub none_then : (items : Items) (states : States) → AreArrivals items → states k ≡ None
+      → states_then key_cmp transaction_machine states items k ≡ None
+  none_then [] states arrive none = none
+  none_then (item ∷ items) states arrive none =
+      none_then items (after_item states item) arrive.1
+      (by_bool (is_at (key_cmp item.key) k)
+      (λ hit. ap (λ b. cond b (next transaction_machine item.key (states item.key) item.input)
+      (states k)) hit
+      ∙ (ap (λ q. next transaction_machine q (states q) item.input)
+      (exact_at keys_total exact_keys item.key k hit)
+      ∙ none_at (states k) item.input.input item.input.moment arrive.0 none))
+      (λ miss. ap (λ b. cond b (next transaction_machine item.key (states item.key) item.input)
+      (states k)) miss ∙ none))
+
+  -- a life that is there after it
+  pub going_new : (held : Option Life) (life : Life) → held ≡ Some life → HeldIn IsNew held
+      → IsGoing k client life.context.id life.context.call_id (now + LIFETIME) life
+  going_new held life is new =
+      let fresh : IsNew life.state life.context = subst (HeldIn IsNew) is new in
+      record {
+        still = ap (λ r. is_open r life.state) client ∙ (open_lacks life.state
+            ∙ (ap (λ r. lacks r life.state) (sym client) ∙ fresh.still));
+        id_is = refl;
+        call_is = refl;
+        timed = fresh.timed;
+        asks = fresh.asks;
+      }

@@ -1,2 +1,0 @@
-pub mod FirstRound
-pub mod HeadLines
