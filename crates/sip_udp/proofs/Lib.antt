@@ -1,5 +1,7 @@
+pub mod Adding
 pub mod Admitted
 pub mod Fed
+pub mod Hearings
 pub mod Lined
 pub mod OwnUri
 pub mod ReadLines

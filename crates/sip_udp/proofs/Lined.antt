@@ -4,11 +4,11 @@ use Rattle.std.proofs.lemmas.Grind.{common_steps}
 use Rattle.std.specs.Prelude.{slice_get, slice_set, slice_index_or}
 use Rattle.std.specs.List.{AllZip}
 use Rattle.std.specs.Result.{result_ok}
-use Rattle.sip_desk.specs.Lines.{IsEndOfLine, SameLine}
+use Rattle.sip_desk.specs.Lines.{IsEndOfLine, IsFinal, SameLine}
 use Rattle.sip_desk.specs.declared.ended.Ended.{Ended}
 use Rattle.sip_desk.specs.declared.ended.Unfinished.{Unfinished}
 use Rattle.sip_desk.specs.declared.poster.Poster.{Poster}
-use Rattle.sip_udp.specs.Hearing.{EndsLine}
+use Rattle.sip_udp.specs.Hearing.{EndsAsPosted, EndsLine}
 
 module _ {A : Type 0} (R : A → A → Type 0) where
   pub zip_same : ((x : A) → R x x) → (xs : List A) → AllZip R xs xs
@@ -48,6 +48,12 @@ pub ended_line : {E : Type 0} (line : Poster E) (result : Result (Ended E) Unfin
     → EndsLine line end
 ended_line line (Ok one) end is ends = subst (λ e. EndsLine line e) (sym is) ends
 ended_line line (Err fault) end is ends = subst (λ e. EndsLine line e) (sym is) tt
+
+pub posted_line : {E : Type 0} (line : Poster E) (result : Result (Ended E) Unfinished)
+    (end : Option (Ended E)) → end ≡ result_ok result → IfOk result (λ one. IsFinal line one)
+    → EndsAsPosted line end
+posted_line line (Ok one) end is final = subst (λ e. EndsAsPosted line e) (sym is) final
+posted_line line (Err fault) end is final = subst (λ e. EndsAsPosted line e) (sym is) tt
 
 pub line_same : {E : Type 0} (line : Poster E) → SameLine line line
 line_same line = record { number = refl; capacity = refl; of_desk = λ desk of. of }

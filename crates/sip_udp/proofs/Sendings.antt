@@ -9,20 +9,10 @@ use Rattle.sip_round.specs.declared.output.Output.{Output}
 use Rattle.sip_round.specs.declared.output.Output.TheVariants as output
 use Rattle.sip_round.specs.declared.output.PlacedOutput.{PlacedOutput}
 use Rattle.sip_round.specs.declared.round.Event.{Event}
+use Rattle.sip_udp.proofs.Adding.{adds_more, adds_nothing}
 use Rattle.sip_udp.specs.declared.outlet.Asked.{Asked}
 use Rattle.sip_udp.specs.Prepared.{key_of}
 use Rattle.sip_udp.specs.Sending.{Asks, SendsAll, calls_for, failure_of, failures_of}
-
-nothing_asked : (now : Option (List Asked)) → Asks now now []
-nothing_asked None = tt
-nothing_asked (Some before) = ap Some (sym (append-nil before))
-
-asked_more : (a b c : Option (List Asked)) (xs ys : List Asked) → Asks a b xs → Asks b c ys
-    → Asks a c (xs ++ ys)
-asked_more None b c xs ys p q = tt
-asked_more (Some before) b c xs ys p q =
-    let at : c ≡ Some ((before ++ xs) ++ ys) = subst (λ x. Asks x c ys) p q in
-    at ∙ ap Some (append_assoc before xs ys)
 
 abbrev pub output_of : PlacedOutput → Output
 output_of placed = placed.output
@@ -38,7 +28,7 @@ pub record SoFar (old now : Option (List Asked)) (outputs left : List PlacedOutp
   pub room : length failed + length left ≤ capacity
 
 pub nothing_sent : (now : Option (List Asked)) → SendsAll now now [] []
-nothing_sent now = record { answered = []; each = refl; asked = nothing_asked now; told = refl }
+nothing_sent now = record { answered = []; each = refl; asked = adds_nothing now; told = refl }
 
 pub one_more : (old now next : Option (List Asked)) (done : List Output) (failed : List Event)
     (output : Output) (is_sent : Bool)
@@ -53,7 +43,7 @@ one_more old now next done failed output is_sent s asks =
         flat_map-append calls_for s.answered last,
         append-nil (calls_for (output, is_sent)),
       )
-          (asked_more old now next (flat_map calls_for s.answered)
+          (adds_more old now next (flat_map calls_for s.answered)
           (calls_for (output, is_sent)) s.asked asks);
       told = ap (λ xs. xs ++ failures_of (output, is_sent)) s.told
           ∙ sym (flat_map-append failures_of s.answered last

@@ -1,3 +1,4 @@
+pub mod Adds
 pub mod Admission
 pub mod Hearing
 pub mod KeepAlive

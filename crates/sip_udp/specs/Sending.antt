@@ -1,16 +1,17 @@
 -- What an outlet is asked to send for the outputs of a round, and which failed sends are reported.
-use Rattle.std.specs.Prelude.{◌≡◌, Bool, true, false, List, [], ◌∷◌, ◌++◌, map, Option, Some, None, IfSome}
+use Rattle.std.specs.Prelude.{◌≡◌, Bool, true, false, List, [], ◌∷◌, map, Option, Some, None}
 use Rattle.std.specs.List.{flat_map}
 use Rattle.sip_message.specs.declared.key.Key.{Key}
 use Rattle.sip_round.specs.declared.output.Output.{Output}
 use Rattle.sip_round.specs.declared.output.Output.TheVariants as output
 use Rattle.sip_round.specs.declared.round.Event.{Event}
 use Rattle.sip_round.specs.declared.round.Event.TheVariants as event
+use Rattle.sip_udp.specs.Adds.{Adds}
 use Rattle.sip_udp.specs.declared.outlet.Asked.{Asked}
 
 -- if the outlet tells what it was asked, these requests come next, in order
 abbrev pub Asks : Option (List Asked) → Option (List Asked) → List Asked → Type 0
-Asks old new calls = IfSome old (λ before. new ≡ Some (before ++ calls))
+Asks old new calls = Adds old new calls
 
 -- ---- an output, and whether the outlet sent it
 

@@ -1,6 +1,9 @@
 //! Where datagrams come from.
 
-ghost use Rattle.std.specs.Prelude.{◌≤◌, length};
+ghost use Rattle.std.specs.Prelude.{List, None, Option};
+ghost use Rattle.sip_round.specs.declared.round.Event.{Event as AnEvent};
+ghost use Rattle.sip_udp.specs.Adds.{Adds};
+ghost use Rattle.sip_udp.specs.Hearing.{came};
 ghost use Rattle.sip_udp.specs.Receiving.{IsInBuffer};
 
 use sip_message::Addr;
@@ -20,16 +23,21 @@ pub enum Received {
 
 /// A way in for datagrams.
 pub trait Inlet {
+    // All datagrams that it gave, in order, if it tells.
+    ghost given: { Self → Option (List AnEvent) };
+
     /// Waits a while for a datagram.
     fn receive(&mut self, buffer: &mut [u8]) -> Received
-        ensures { IsInBuffer result buffer.new };
+        ensures buffer { IsInBuffer result buffer.new }
+        ensures given { Adds (given self.old) (given self.new) (came result buffer.new) };
 }
 
-/// The socket waits as long as its read timeout says. A datagram from an IPv6 address is ignored.
+/// The socket waits as long as its read timeout says. A datagram from an IPv6 address is ignored. It
+/// doesn't tell what it gave.
 impl Inlet for UdpSocket {
-    fn receive(&mut self, buffer: &mut [u8]) -> Received
-        ensures { IsInBuffer result buffer.new }
-    {
+    ghost given = { λ _. None };
+
+    fn receive(&mut self, buffer: &mut [u8]) -> Received {
         match self.recv_from(buffer) {
             Ok((length, SocketAddr::V4(from))) => Received::Datagram {
                 from: Addr {

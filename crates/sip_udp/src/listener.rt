@@ -1,11 +1,13 @@
 //! The listener: it reads datagrams on a thread of its own, and posts each to its agent.
 
-ghost use Rattle.std.specs.Prelude.{◌≡◌, ◌≢◌, ◌<◌, ◌≤◌, ℕ, List, length, IfNone, IfOk, IfSome, Some, slice_get};
+ghost use Rattle.std.specs.Prelude.{◌≡◌, ◌≢◌, ◌∷◌, ◌<◌, ◌≤◌, [], Err, ℕ, List, length, IfNone, IfOk, IfSome, Some, slice_get};
 ghost use Rattle.std.specs.List.{AllZip};
-ghost use Rattle.sip_desk.specs.Lines.{SameLine};
+ghost use Rattle.sip_desk.specs.Lines.{SameLine, posted};
+ghost use Rattle.sip_desk.specs.declared.poster.Poster.{Poster as APoster};
+ghost use Rattle.sip_round.specs.declared.round.Event.{Event as AnEvent};
 ghost use Rattle.sip_round.specs.declared.round.Event.TheVariants.{Datagram as ADatagram};
 ghost use Rattle.sip_udp.specs.declared.fault.UaFault.TheVariants.{NoMemory};
-ghost use Rattle.sip_udp.specs.Hearing.{EndsLine, agent_of_datagram};
+ghost use Rattle.sip_udp.specs.Hearing.{EndsAsPosted, EndsLine, Hears, Posts, agent_of_datagram, ended_with, posted_by};
 
 use crate::bell::Bell;
 use crate::fault::UaFault;
@@ -74,25 +76,23 @@ pub struct Heard {
 /// Posts each datagram that comes in until it is told to stop, and then ends the lines. There is a
 /// line for each agent, up to 16: a datagram goes to the agent of its Call-ID, and without one to
 /// the first. If its line has no room for a datagram, the datagram is lost.
-pub fn hear<I: Inlet + Drop>(
+pub fn hear<I: Inlet>(
     alloc: Global,
-    mut inlet: I,
+    inlet: &mut I,
     mut buffer: Vec<u8>,
     mut lines: Vec<Poster<Event>>,
     flags: Arc<Flags>,
 ) -> Heard
     ensures ends { IfSome result.ends (λ ends. AllZip EndsLine lines.items ends.items) }
     ensures memory { IfNone result.ends (result.fault ≡ Some NoMemory) }
+
+    // Unless memory ran out, each datagram that came stands on the line of its agent, or is lost.
+    ensures hears { IfSome result.ends (λ ends. result.fault ≢ Some NoMemory
+        → Hears (I.given inlet.old) (I.given inlet.new) lines.items (ended_with ends.items)
+        result.lost) }
 {
     let mut lost = 0;
-    let posted = post_all(
-        alloc,
-        &mut inlet,
-        &mut buffer,
-        &mut lines,
-        &flags,
-        &mut lost,
-    );
+    let posted = post_all(alloc, inlet, &mut buffer, &mut lines, &flags, &mut lost);
     let heard = finish_all(alloc, lines, posted.err(), lost);
     flags.end();
     heard
@@ -101,7 +101,10 @@ pub fn hear<I: Inlet + Drop>(
 // Ends the lines of a listener.
 fn finish_all(alloc: Global, lines: Vec<Poster<Event>>, fault: Option<UaFault>, lost: u64) -> Heard
     ensures ends { IfSome result.ends (λ ends. AllZip EndsLine lines.items ends.items) }
+    ensures posted { IfSome result.ends (λ ends. AllZip EndsAsPosted lines.items ends.items) }
     ensures memory { IfNone result.ends (result.fault ≡ Some NoMemory) }
+    ensures fault { IfSome result.ends (λ ends. result.fault ≡ fault) }
+    ensures lost { result.lost ≡ lost }
 {
     match ends_of(alloc, lines) {
         Ok(ends) => Heard {
@@ -122,7 +125,8 @@ fn ends_of(
     alloc: Global,
     lines: Vec<Poster<Event>>,
 ) -> Result<Vec<Option<Ended<Event>>>, AllocError>
-    ensures { IfOk result (λ ends. AllZip EndsLine lines.items ends.items) }
+    ensures ends { IfOk result (λ ends. AllZip EndsLine lines.items ends.items) }
+    ensures posted { IfOk result (λ ends. AllZip EndsAsPosted lines.items ends.items) }
 {
     let mut ends = Vec::with_capacity(alloc, lines.len())?;
     for line in lines {
@@ -140,7 +144,10 @@ fn post_all<I: Inlet>(
     flags: &Flags,
     lost: &mut u64,
 ) -> Result<(), UaFault>
-    ensures { AllZip SameLine lines.old lines.new }
+    requires { lost.old ≡ 0 }
+    ensures same { AllZip SameLine lines.old lines.new }
+    ensures hears { result ≢ Err NoMemory → Hears (I.given inlet.old) (I.given inlet.new) lines.old
+        (posted_by lines.new) lost.new }
 {
     let mut failed = 0;
     for _ in 0..u64::MAX {
@@ -171,8 +178,10 @@ fn post(
     bytes: &[u8],
 ) -> Result<bool, AllocError>
     ensures same { AllZip SameLine lines.old lines.new }
-    ensures others { (other : ℕ) → other ≢ agent_of_datagram (length lines.old) bytes.now
-        → slice_get lines.new other ≡ slice_get lines.old other }
+    ensures posted { IfOk result (λ has_room. (number : ℕ) (line later : APoster AnEvent)
+        → slice_get lines.old number ≡ Some line → slice_get lines.new number ≡ Some later
+        → Posts (length lines.old) number line (posted later)
+        ((ADatagram from bytes.now, has_room) ∷ [])) }
 {
     let bytes = Text::copy_of(alloc, bytes)?;
     let event = Event::Datagram { from, bytes };

@@ -275,11 +275,11 @@ impl Ears {
         ensures { IfSome result.ends (λ ends. AllZip EndsLine lines.items ends.items) }
     {
         let Ears {
-            socket,
+            mut socket,
             buffer,
             flags,
         } = self;
-        hear(alloc, socket, buffer, lines, flags)
+        hear(alloc, &mut socket, buffer, lines, flags)
     }
 }
 
