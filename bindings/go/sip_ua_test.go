@@ -328,3 +328,24 @@ func TestManyGoroutines(t *testing.T) {
 	all.Wait()
 	same(t, nil, []int{len(ids), refused}, []int{goroutines * commands, goroutines * commands})
 }
+
+// An agent is closed while goroutines use it.
+func TestAClosedAgentIsTold(t *testing.T) {
+	const goroutines = 8
+	agent := begin(t)
+	told := make(chan error)
+	for i := 0; i < goroutines; i++ {
+		go func() {
+			for {
+				if _, err := agent.Run(0); err != nil {
+					told <- err
+					return
+				}
+			}
+		}()
+	}
+	must(t, agent.Close())
+	for i := 0; i < goroutines; i++ {
+		same(t, nil, <-told, ErrNoAgent)
+	}
+}
