@@ -118,6 +118,7 @@ func TestManyGoroutinesDo(t *testing.T) {
 		},
 	})
 	must(t, err)
+	defer callee.Wait()
 	defer callee.Close()
 	var all sync.WaitGroup
 	all.Add(goroutines)
@@ -197,10 +198,10 @@ func TestTimers(t *testing.T) {
 	options := Plain{CallID: "c1", Address: silent.LocalAddr().(*net.UDPAddr).AddrPort(),
 		Method: "OPTIONS", RequestURI: "sip:b@127.0.0.1", From: "sip:a@127.0.0.1",
 		To: "sip:b@127.0.0.1"}
+	begin := time.Now()
 	do(t, endpoint, options)
-	first, begin := receive(t, silent), time.Now()
-	same(t, nil, receive(t, silent), first)
-	if waited := time.Since(begin); waited < 400*time.Millisecond {
+	same(t, nil, receive(t, silent), receive(t, silent))
+	if waited := time.Since(begin); waited < 490*time.Millisecond {
 		t.Fatal(waited)
 	}
 	options.CallID, options.Address = "c2", loopback

@@ -120,6 +120,7 @@ func TestDatagramsAreRead(t *testing.T) {
 	drop := run(t, agent, 0, 2)[0] // before the 481 to the INFO
 	same(t, nil, drop, Output{Kind: Drop, Place: 2, Reason: DropMissing, Header: "Via",
 		Body: []byte{}})
+	same(t, nil, drop.Reason.String(), "a header is missing")
 	datagram, is, err := agent.DatagramAt(1)
 	same(t, err, []any{datagram, is}, []any{Received{other, []byte(info)}, true})
 	start, is, err := agent.StartLine(1)
