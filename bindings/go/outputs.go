@@ -25,8 +25,8 @@ const (
 	// NoticeRequest is a request to answer: ID, Method, LocalTag, RemoteTag, Body. Your responses
 	// carry LocalTag.
 	NoticeRequest Kind = C.SIP_UA_NOTICE_REQUEST
-	// NoticeResponse is a response to the request of the command ID: Status, LocalTag, RemoteTag,
-	// Body. The local tag is that of From, the remote tag that of To.
+	// NoticeResponse is a response to the request of the command ID: Status (also 100), LocalTag,
+	// RemoteTag, Body. The local tag is that of From, the remote tag that of To.
 	NoticeResponse Kind = C.SIP_UA_NOTICE_RESPONSE
 	// NoticeAck says that the ACK of a 2xx to the INVITE of this ID came: Body.
 	NoticeAck Kind = C.SIP_UA_NOTICE_ACK

@@ -139,7 +139,7 @@ func (a *answerer) isBusy() bool {
 func do(endpoint *sipua.Endpoint, command sipua.Command) sipua.ID {
 	id, err := endpoint.Do(command)
 	if err != nil {
-		log.Fatal(err)
+		log.Print(err)
 	}
 	return id
 }
