@@ -206,11 +206,7 @@ func (e *Endpoint) serve(ctx context.Context) error {
 			return err
 		}
 		outputs, err := e.Agent.Run(uint64(time.Since(e.start).Milliseconds()))
-		for _, output := range outputs {
-			if output.Kind == Send {
-				e.send(output)
-			}
-		}
+		e.sendAll(outputs)
 		e.tell(outputs)
 		if err != nil {
 			return err
@@ -274,6 +270,15 @@ func (e *Endpoint) sheds(data []byte) (bool, error) {
 		return false, nil
 	}
 	return e.Agent.WouldBegin(data)
+}
+
+// Sends the datagrams of a round.
+func (e *Endpoint) sendAll(outputs []Output) {
+	for _, output := range outputs {
+		if output.Kind == Send {
+			e.send(output)
+		}
+	}
 }
 
 // Sends a datagram, unless it would answer a repeat from another address. A failure is an event of

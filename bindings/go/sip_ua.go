@@ -222,24 +222,28 @@ type room []byte
 // for them.
 func (r *room) filled(call func(span) C.uint32_t, lengths ...*C.size_t) ([][]byte, error) {
 	status := call(spanOf(*r))
-	var size C.size_t
-	for _, length := range lengths {
-		size += *length
-	}
 	if status == C.SIP_UA_NO_ROOM {
-		*r = make(room, size)
+		*r = make(room, sum(lengths))
 		status = call(spanOf(*r))
 	}
 	if status != C.SIP_UA_OK {
 		return nil, Error(status)
 	}
-	rest := append(make([]byte, 0, size), (*r)[:size]...)
+	rest := append(make([]byte, 0, sum(lengths)), (*r)[:sum(lengths)]...)
 	texts := make([][]byte, 0, len(lengths))
 	for _, length := range lengths {
 		texts = append(texts, rest[:*length:*length])
 		rest = rest[*length:]
 	}
 	return texts, nil
+}
+
+func sum(lengths []*C.size_t) C.size_t {
+	var all C.size_t
+	for _, length := range lengths {
+		all += *length
+	}
+	return all
 }
 
 // The one text that a call writes, with its length.

@@ -163,15 +163,16 @@ func TestAddressesAreRead(t *testing.T) {
 	same(t, err, []any{found, is}, []any{HeaderAddress{"B", "sip:g@h", "t", true}, true})
 }
 
-// Commands with a bad field: which it is, and nothing is asked for. One that is refused.
-func TestFieldsAndRefusals(t *testing.T) {
+const uri = "sip:b@192.0.2.9"
+
+// Commands with a bad field: which it is, and nothing is asked for.
+func TestBadFields(t *testing.T) {
 	agent := begin(t)
-	uri := "sip:b@192.0.2.9"
 	bad := map[Command]error{}
 	invite := func(callID, uri, from, to string) Command {
 		return &Invite{CallID: callID, Address: other, RequestURI: uri, From: from, To: to}
 	}
-	via, route := []Header{{"Subject", "lost"}, {"Via", "x"}}, []Header{{"Route", "<sip:r>"}}
+	via, route := []Header{{"Via", "x"}}, []Header{{"Route", "<sip:r>"}}
 	bad[invite("", uri, uri, uri)] = FieldCallID
 	bad[&Plain{CallID: "c", Address: other, Method: "A B", RequestURI: uri, From: uri, To: uri}] =
 		FieldMethod
@@ -196,12 +197,20 @@ func TestFieldsAndRefusals(t *testing.T) {
 	same(t, nil, FieldRequestURI.Error(), "a field of the command is bad: RequestURI")
 	_, err := agent.Do(nil)
 	same(t, nil, err, ErrNull)
-	_, err = agent.Do(Plain{CallID: "c", Method: "OPTIONS", Headers: via[:1],
-		Address: netip.MustParseAddrPort("[2001:db8::1]:5060")})
-	same(t, nil, err, ErrAddress)
 	same(t, nil, agent.Datagram(netip.AddrPort{}, nil), ErrAddress)
 	stats, err := agent.Stats()
 	same(t, err, stats, Stats{})
+}
+
+// A command that is refused, after two that lost their headers.
+func TestARefusal(t *testing.T) {
+	agent := begin(t)
+	headers := []Header{{"Subject", "lost"}, {"Via", "x"}}
+	_, err := agent.Do(Prack{CallID: "c", LocalTag: "a", RemoteTag: "b", Headers: headers})
+	same(t, nil, err, FieldHeaders)
+	_, err = agent.Do(Plain{CallID: "c", Method: "OPTIONS", Headers: headers[:1],
+		Address: netip.MustParseAddrPort("[2001:db8::1]:5060")})
+	same(t, nil, err, ErrAddress)
 	_, err = agent.Do(Invite{CallID: "c", Address: other, RequestURI: uri, From: uri, To: uri})
 	must(t, err)
 	id, err := agent.Do(Request{CallID: "c", LocalTag: "a", RemoteTag: "b", Method: "BYE"})
@@ -222,7 +231,6 @@ func TestFieldsAndRefusals(t *testing.T) {
 // The tag of an INVITE, and the faults of calls.
 func TestFaults(t *testing.T) {
 	agent := begin(t)
-	uri := "sip:b@192.0.2.9"
 	id, err := agent.Do(Invite{CallID: "c", Address: other, RequestURI: uri, From: uri, To: uri})
 	must(t, err)
 	tag, err := agent.OpeningTag(id)
