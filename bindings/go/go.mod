@@ -1,3 +1,3 @@
-module sipua
+module walgroud.example/sipua
 
 go 1.18
