@@ -14,8 +14,10 @@ import asyncio
 import os
 import re
 import socket
+import struct
+import sys
 import time
-from typing import Callable, Iterable, Optional, Tuple, Union, cast
+from typing import Callable, Dict, Iterable, Iterator, Optional, Tuple, Union, cast
 
 from sip_ua import (
     LARGEST_DATAGRAM,
@@ -42,14 +44,94 @@ _OF_CALL = re.compile(
     rb"\A\s*CANCEL |^(?:to|t)[ \t]*:[^\r\n]*;[ \t]*tag[ \t]*=", re.IGNORECASE | re.MULTILINE
 )
 
+# How long after a request was sent the network may refuse it.
+LATELY_S = 4.0
+# How often a datagram is sent whose send fails by the refusal of an earlier one.
+MOST_TRIES = 5
+# The method and the branch of a request that an agent wrote.
+_REQUEST = re.compile(rb"([^ /\r\n]+) [^\r\n]* SIP/2\.0\r\nVia: [^\r\n]*;branch=([^;\r\n]+)\r\n")
+# Linux, ip(7): the socket option that keeps refusals, and the begin of struct sock_extended_err: an
+# error number, who told it, and the type and the code of the ICMP message.
+_IP_RECVERR = 11
+_REFUSAL = struct.Struct("=IBBB")
+_TOLD_BY_ICMP = 2
+_UNREACHABLE = 3
+# No way to the network, the host, the protocol or the port (RFC 3261, section 18.4).
+_REFUSING_CODES = range(4)
+_MOST_QUOTED = 2048
+_MOST_TOLD = 512
+
 Address = Tuple[str, int]
 OnTold = Callable[[Union[Notice, Drop]], None]
+
+
+class SentLately:
+    """The requests that were sent in the last LATELY_S, by their branch and method, and where to.
+    They alone can be refused by the network: who forges a refusal would have to know the branch."""
+
+    def __init__(self) -> None:
+        # The latest stand last.
+        self._sent: Dict[Tuple[str, str], Tuple[float, Address]] = {}
+
+    def add(self, datagram: bytes, to: Address, moment: float) -> None:
+        """Takes a datagram that is sent at a moment, in s."""
+        name = _name_of(datagram)
+        if name is not None:
+            self._sent.pop(name, None)
+            self._sent[name] = moment, to
+            self._forget(moment - LATELY_S)
+
+    def refused(self, quote: bytes, to: Address, moment: float) -> Optional[Tuple[str, str]]:
+        """The branch and the method of the request whose beginning is quoted, if it was sent to
+        this address lately."""
+        self._forget(moment - LATELY_S)
+        name = _name_of(quote)
+        sent = self._sent.get(name) if name is not None else None
+        return name if sent is not None and sent[1] == to else None
+
+    def _forget(self, moment: float) -> None:
+        """Forgets what was sent before a moment."""
+        while self._sent:
+            name, (sent_at, _) = next(iter(self._sent.items()))
+            if sent_at >= moment:
+                break
+            del self._sent[name]
+
+
+def _name_of(datagram: bytes) -> Optional[Tuple[str, str]]:
+    """The branch and the method of a request, also of its beginning alone; an ACK has none."""
+    found = _REQUEST.match(datagram)
+    if found is None or found[1] == b"ACK":
+        return None
+    return found[2].decode("latin-1"), found[1].decode("ascii")
+
+
+def _refusals(udp: socket.socket) -> Iterator[Tuple[bytes, Address]]:
+    """Takes from a socket what ICMP refused: what it quotes of each datagram, and where that went.
+    Only Linux tells it."""
+    while sys.platform == "linux":
+        try:
+            quote, told, _, to = udp.recvmsg(_MOST_QUOTED, _MOST_TOLD, socket.MSG_ERRQUEUE)
+        except OSError:
+            return
+        if any(_is_refusal(*one) for one in told):
+            yield quote, to
+
+
+def _is_refusal(level: int, kind: int, data: bytes) -> bool:
+    """Whether a message about a socket tells that a datagram was refused."""
+    if (level, kind) != (socket.IPPROTO_IP, _IP_RECVERR) or len(data) < _REFUSAL.size:
+        return False
+    _, told_by, icmp_type, code = _REFUSAL.unpack_from(data)
+    is_unreachable = (told_by, icmp_type) == (_TOLD_BY_ICMP, _UNREACHABLE)
+    return is_unreachable and code in _REFUSING_CODES
 
 
 class Endpoint(asyncio.DatagramProtocol):
     """An agent with its socket. `open_endpoint` opens one, and `close` closes it. `agent` is the
     Agent. `local` is what Via and Contact say. A request that would begin a transaction may have
-    `largest` bytes: 16,384, unless you set it. `lost` counts the datagrams that were larger, or had
+    `largest` bytes: 16,384, unless you set it. On Linux a request that the network refuses (ICMP:
+    unreachable) fails, as one that the socket refuses. `lost` counts the datagrams that were larger, or had
     no room in a round or above `most_transactions`, and `reflected` the responses that weren't sent
     since their request came again from another address (`Agent.is_reflected`). `is_closed` says
     whether it was closed: by `close`, or since its journal couldn't be written. Then `ask` raises
@@ -63,6 +145,7 @@ class Endpoint(asyncio.DatagramProtocol):
         most_transactions: int,
         journal: Optional[Journal] = None,
         moment: int = 0,
+        udp: Optional[socket.socket] = None,
     ):
         self.agent = agent
         self.local = local
@@ -78,6 +161,9 @@ class Endpoint(asyncio.DatagramProtocol):
         self._next: Optional[asyncio.Handle] = None
         self._transport: Optional[asyncio.DatagramTransport] = None
         self._has_failed = False
+        # The socket that tells what was refused.
+        self._udp = udp
+        self._sent_lately = SentLately()
         self.is_closed = False
         # Called once it is closed.
         self.on_closed: Optional[Callable[[], None]] = None
@@ -157,6 +243,13 @@ class Endpoint(asyncio.DatagramProtocol):
     def error_received(self, exc: Exception) -> None:
         """A send failed: called within sendto, or later if the network refused it."""
         self._has_failed = True
+        if self._udp is None or self.is_closed:
+            return
+        for quote, to in _refusals(self._udp):
+            name = self._sent_lately.refused(quote, to, self._loop.time())
+            if name is not None:
+                branch, method = name
+                self._fail(lambda: self.agent.event_line(f"failed client {branch} {method}"))
 
     def _run_soon(self) -> None:
         if self._next is not None:
@@ -182,7 +275,7 @@ class Endpoint(asyncio.DatagramProtocol):
         if self.agent.is_reflected(output):
             self.reflected += 1
         elif not self._sends(output.datagram, output.to):
-            self._fail(output)
+            self._fail(lambda: self.agent.failed(output.index))
 
     def tell(self, outputs: Iterable[Output]) -> None:
         """Tells the notices and drops of a round, and waits for the next one."""
@@ -206,15 +299,19 @@ class Endpoint(asyncio.DatagramProtocol):
         that UDP can't carry is refused here."""
         if len(data) > LARGEST_DATAGRAM or self._transport is None:
             return False
-        self._has_failed = False
-        self._transport.sendto(data, to)
-        return not self._has_failed
+        self._sent_lately.add(data, to, self._loop.time())
+        for _ in range(MOST_TRIES):
+            self._has_failed = False
+            self._transport.sendto(data, to)
+            if not self._has_failed:
+                return True
+        return False
 
-    def _fail(self, output: Send) -> None:
+    def _fail(self, tell: Callable[[], None]) -> None:
         """Reports a send that failed. Where the next round has no room for that, its transaction
         ends by its timers."""
         try:
-            self.agent.failed(output.index)
+            tell()
         except Error as error:
             if error.status != Status.TOO_MANY_EVENTS:
                 raise
@@ -284,6 +381,8 @@ def _bound(address: Address) -> socket.socket:
     udp = socket.socket(socket.AF_INET, socket.SOCK_DGRAM)
     try:
         udp.setblocking(False)
+        if sys.platform == "linux":
+            udp.setsockopt(socket.IPPROTO_IP, _IP_RECVERR, 1)
         udp.bind(address)
     except BaseException:
         udp.close()
@@ -303,7 +402,8 @@ async def _open(
     moment = 0 if journal is None else max(int(time.time() * 1000), begun.moment or 0)
     loop = asyncio.get_running_loop()
     _, endpoint = await loop.create_datagram_endpoint(
-        lambda: Endpoint(begun.agent, local, on_told, most_transactions, journal, moment), sock=udp
+        lambda: Endpoint(begun.agent, local, on_told, most_transactions, journal, moment, udp),
+        sock=udp,
     )
     if begun.moment is not None:
         loop.call_soon(endpoint.tell, begun.outputs)

@@ -5,6 +5,7 @@ examples/c/register.c. The examples are on the path."""
 import asyncio
 import os
 import socket
+import sys
 import tempfile
 import unittest
 from typing import Any, Awaitable, Callable, List, Tuple, TypeVar
@@ -34,7 +35,7 @@ from sip_ua_calls import (
 )
 from sip_ua_journal import FileJournal, JournalError, JournalFull, JournalInUse
 from sip_ua_registration import RegistrationFailed, granted_s, register
-from sip_ua_udp import open_endpoint
+from sip_ua_udp import LATELY_S, SentLately, open_endpoint
 
 LIBRARY = os.environ["SIP_UA_LIBRARY"]
 ANY_PORT = ("127.0.0.1", 0)
@@ -98,6 +99,45 @@ class ErrorsTest(unittest.TestCase):
             (JournalFull, OSError),
         ):
             self.assertTrue(issubclass(kind, SipUaError) and issubclass(kind, base))
+
+
+class SentLatelyTest(unittest.TestCase):
+    """What the network may refuse."""
+
+    there, elsewhere = ("192.0.2.9", 5060), ("192.0.2.9", 5062)
+    sent = (
+        b"INVITE sip:b@192.0.2.9 SIP/2.0\r\nVia: SIP/2.0/UDP 192.0.2.1:5060;rport;branch=z9hG4bKa1\r\n"
+        b"Max-Forwards: 70\r\n"
+    )
+
+    def setUp(self) -> None:
+        self.lately = SentLately()
+        self.lately.add(self.sent, self.there, 1.0)
+
+    def test_what_was_sent(self) -> None:
+        for quote in (self.sent, self.sent[: self.sent.index(b"Max")]):
+            told = self.lately.refused(quote, self.there, 2.0)
+            self.assertEqual(told, ("z9hG4bKa1", "INVITE"))
+
+    def test_what_was_not(self) -> None:
+        """Another branch, method or address, a part of the branch, or nothing of it."""
+        other = self.sent.replace(b"bKa1", b"bKa2")
+        for quote in (other, self.sent.replace(b"INVITE", b"BYE"), b"", self.sent[:-30], b"\0\1"):
+            self.assertIsNone(self.lately.refused(quote, self.there, 2.0))
+        self.assertIsNone(self.lately.refused(self.sent, self.elsewhere, 2.0))
+
+    def test_what_was_sent_long_ago(self) -> None:
+        self.assertIsNone(self.lately.refused(self.sent, self.there, 1.1 + LATELY_S))
+        # A request that is sent again may be refused again.
+        self.lately.add(self.sent, self.there, 8.0)
+        self.assertIsNotNone(self.lately.refused(self.sent, self.there, 9.0))
+
+    def test_responses_and_acks(self) -> None:
+        """They are no requests that end by it."""
+        for datagram in (self.sent.replace(b"INVITE", b"ACK"), b"SIP/2.0 200 OK\r\nVia: x\r\n\r\n"):
+            lately = SentLately()
+            lately.add(datagram, self.there, 1.0)
+            self.assertIsNone(lately.refused(datagram, self.there, 1.0))
 
 
 class CallsTest(unittest.IsolatedAsyncioTestCase):
@@ -557,6 +597,27 @@ class CallsTest(unittest.IsolatedAsyncioTestCase):
             answer = await soon(asyncio.get_running_loop().sock_recv(peer, 4096))
             self.assertIn(b"z9hG4bKright", answer)
         self.assertEqual(endpoint.lost, 1)
+
+    @unittest.skipUnless(sys.platform == "linux", "only Linux tells what was refused")
+    async def test_requests_to_a_closed_port(self) -> None:
+        """They fail at once, also in a call that is up, and what is sent beside them goes out."""
+        with bound("127.0.0.1") as closed:
+            uri = f"sip:b@127.0.0.1:{closed.getsockname()[1]}"
+        begun = asyncio.get_running_loop().time()
+        calls = [await self.one.call(uri, OFFER) for _ in range(3)]
+        asked = [self.one.request("OPTIONS", to) for to in (uri, self.two.uri, uri)]
+        statuses = [response.status for response in await soon(asyncio.gather(*asked))]
+        self.assertEqual(statuses, [503, 200, 503])
+        for call in calls:
+            with self.assertRaises(CallFailed) as failed:
+                await soon(call.answered())
+            self.assertEqual(failed.exception.response.status, 503)
+        outgoing, _ = await self.up()
+        self.two.endpoint.close()
+        await self.two.endpoint.wait_closed()
+        self.assertEqual((await soon(outgoing.request("INFO"))).status, 503)
+        self.assertTrue(outgoing.is_up)
+        self.assertLess(asyncio.get_running_loop().time() - begun, 1.0)
 
     async def test_a_repeat_from_another_address(self) -> None:
         """The response isn't sent again to whoever asked first."""
