@@ -773,6 +773,7 @@ _DROP = 3
 _REQUEST = 1
 _RESPONSE = 2
 _COMPACT_NAMES = {
+    "b": "referred-by",
     "c": "content-type",
     "e": "content-encoding",
     "f": "from",
@@ -780,9 +781,13 @@ _COMPACT_NAMES = {
     "k": "supported",
     "l": "content-length",
     "m": "contact",
+    "o": "event",
+    "r": "refer-to",
     "s": "subject",
     "t": "to",
+    "u": "allow-events",
     "v": "via",
+    "x": "session-expires",
 }
 _HEADERS = (
     "Via From To Call-ID CSeq Max-Forwards Content-Length RSeq RAck Contact Record-Route Route "

@@ -131,11 +131,11 @@ class Endpoint(asyncio.DatagramProtocol):
     """An agent with its socket. `open_endpoint` opens one, and `close` closes it. `agent` is the
     Agent. `local` is what Via and Contact say. A request that would begin a transaction may have
     `largest` bytes: 16,384, unless you set it. On Linux a request that the network refuses (ICMP:
-    unreachable) fails, as one that the socket refuses. `lost` counts the datagrams that were larger, or had
-    no room in a round or above `most_transactions`, and `reflected` the responses that weren't sent
-    since their request came again from another address (`Agent.is_reflected`). `is_closed` says
-    whether it was closed: by `close`, or since its journal couldn't be written. Then `ask` raises
-    Error NO_AGENT. `on_closed`, if it is set, is called then."""
+    unreachable) fails, as one that the socket refuses. `lost` counts the datagrams that were
+    larger, or had no room in a round or above `most_transactions`, and `reflected` the responses
+    that weren't sent since their request came again from another address (`Agent.is_reflected`).
+    `is_closed` says whether it was closed: by `close`, or since its journal couldn't be written.
+    Then `ask` raises Error NO_AGENT. `on_closed`, if it is set, is called then."""
 
     def __init__(
         self,
