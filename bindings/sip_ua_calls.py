@@ -293,6 +293,8 @@ class IncomingRequest:
 
     def _told(self, notice: Notice) -> None:
         if isinstance(notice, AckNotice):
+            if self._call is not None:
+                self._call._heard = notice.body or self._call._heard
             self._end(self._agent.message(notice.place, notice.body))
         elif not isinstance(notice, PrackNotice):
             self.is_answered = True
@@ -562,7 +564,8 @@ class Call:
         reports it. The call stays: hang up both calls then. The status is that of the REFER where
         the peer refuses it or reports nothing, below 200 if its reports end without a final one,
         481 if the call ends before, and 491 while another transfer goes on. The reports may never
-        end: bound this by `asyncio.wait_for`."""
+        end: bound this by `asyncio.wait_for`. Raises BadValueError for what is no URI, or a call
+        that isn't up."""
         if self._report is not None:
             return FinalResponse(491, "Request Pending")
         refer = ("Refer-To", refer_to(target) if isinstance(target, str) else target._refer_to())
@@ -581,6 +584,8 @@ class Call:
 
     def _refer_to(self) -> str:
         """The Refer-To by which another peer takes our place in this call."""
+        if not self.is_up:
+            raise BadValueError("a call that isn't up can't be handed over")
         return refer_to(self._target, Replaces(self.call_id, self.remote_tag, self.local_tag))
 
     def acknowledge(self, answer: bytes = b"", headers: Headers = ()) -> None:

@@ -32,6 +32,7 @@ METHOD_NOT_ALLOWED = 405
 _LONG_NAMES = {"k": "supported", "m": "contact", "x": "session-expires"}
 _TOKEN = re.compile(r"[A-Za-z0-9\-.!%*_+`'~]+")
 _QUOTED = re.compile(r'"(?:[^"\\]|\\.)*"')
+_URI = re.compile(r'[A-Za-z][A-Za-z0-9+.-]*:[^\s<>"]+')
 # What stands unescaped in the value of a URI's header (RFC 3261, section 25.1).
 _PLAIN_IN_URI = "[]/?:+$-_.!~*'()"
 _REPORT = re.compile(rb"\s*SIP/2\.0 ([1-6]\d\d) ?([^\r\n]*)")
@@ -179,7 +180,9 @@ def refer_of(message: Message) -> Optional[Refer]:
 
 
 def refer_to(uri: str, replaces: Optional[Replaces] = None) -> str:
-    """The value of a Refer-To."""
+    """The value of a Refer-To. Raises BadValueError if it is no URI."""
+    if not _URI.fullmatch(uri):
+        raise BadValueError(f"no URI: {uri!r}")
     if replaces is None:
         return f"<{uri}>"
     return f"<{_apart(uri)[0]}?Replaces={quote(str(replaces), _PLAIN_IN_URI)}>"

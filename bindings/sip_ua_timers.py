@@ -131,8 +131,10 @@ class Session:
         return [("Session-Expires", f"{seconds};refresher={'uac' if is_peers else 'uas'}")]
 
     def _begin(self, seconds: int, is_refresher: bool) -> None:
-        """The session lasts so long from now on. Who doesn't refresh it ends it a bit before."""
+        """The session lasts so long from now on, but never so short that refreshes are a burden.
+        Who doesn't refresh it ends it a bit before."""
         loop = asyncio.get_running_loop()
+        seconds = max(seconds, LEAST_S)
         self.number += 1
         self.interval_s = self._asked_s = seconds
         self._is_refresher = is_refresher

@@ -892,8 +892,13 @@ class TransferTest(unittest.IsolatedAsyncioTestCase):
         call, _ = await self.up(self.two)
         self.assertEqual((await soon(call.transfer(self.three.uri))).status, 405)
         self.assertEqual((await soon(call.transfer(self.three.uri))).status, 405)
+        for wrong in ("three", "<sip:three@192.0.2.3>", ""):
+            with self.assertRaises(BadValueError):
+                await soon(call.transfer(wrong))
         call.hang_up()
         self.assertEqual((await soon(call.transfer(self.three.uri))).status, 481)
+        with self.assertRaises(BadValueError):
+            await soon(call.transfer(call))
 
     async def test_reports_that_end_too_soon(self) -> None:
         """Without a final status, by the end of the call, and none at all (RFC 4488)."""

@@ -15,6 +15,7 @@ from typing import Any, Coroutine, Optional, Set
 
 from sip_ua import Error
 from sip_ua_calls import (
+    ALLOW,
     Answered,
     Call,
     Event,
@@ -187,7 +188,9 @@ async def main(
     at = await address_of(f"sip:{registrar}") if registrar else None
     name = user.partition("@")[0]
     own = await address_of(f"sip:{local}")
-    agent = await open_user_agent(library, own, f"sip:{user}", at, name, password)
+    agent = await open_user_agent(
+        library, own, f"sip:{user}", at, name, password, allow=(*ALLOW, "INFO")
+    )
     lines = asyncio.StreamReader()
     loop = asyncio.get_running_loop()
     await loop.connect_read_pipe(lambda: asyncio.StreamReaderProtocol(lines), sys.stdin)
