@@ -81,7 +81,7 @@ from sip_ua import (
 )
 from sip_ua_digest import CHALLENGES, Authenticator
 from sip_ua_headers import ALLOW as ALLOW
-from sip_ua_headers import METHODS, Profile, Refer, Replaces, names_of
+from sip_ua_headers import METHODS, Profile, Refer, Replaces, names_of, number_of
 from sip_ua_headers import refer_of, refer_to, replaces_of, report_of
 from sip_ua_headers import uri_of as uri_of
 from sip_ua_journal import FileJournal, Held, HeldDialog, held_by
@@ -201,13 +201,13 @@ class Reason(enum.Enum):
     BYE = "bye"
     # It was cancelled before it was up, by either side.
     CANCELLED = "cancelled"
-    # It was refused before it was up, by either side: `Ended.response` says how.
+    # It was refused before it was up, by either side, or no PRACK came: `Ended.response` says how.
     REFUSED = "refused"
     # The 200 was sent again for 32 s, and its ACK never came.
     NO_ACK = "no ack"
     # It was up; then the peer no longer knew it, or answered a request or refreshed it in time.
     PEER_LOST = "peer lost"
-    # No response to the INVITE, or no PRACK came in time; or the endpoint closed before the end.
+    # No response to the INVITE came in time, or the endpoint closed before the end.
     TIMEOUT = "timeout"
     # The INVITE or a response to it couldn't be sent, or the network refused it.
     UNREACHABLE = "unreachable"
@@ -215,8 +215,8 @@ class Reason(enum.Enum):
 
 @dataclass(frozen=True)
 class Ended:
-    """The call has ended. If it was never up, `response` says why; after a call that was up it is
-    None. The message is the peer's BYE or CANCEL, if there was one."""
+    """The call has ended, for this reason. If it was never up, `response` says why; after a call
+    that was up it is None. The message is the peer's BYE or CANCEL, if there was one."""
 
     response: Optional[FinalResponse] = None
     message: Optional[Message] = None
@@ -269,8 +269,9 @@ class IncomingRequest:
 
     def refer(self) -> Optional[Refer]:
         """What a REFER asks for: the URI to call, and the dialog that this call is to take the
-        place of. None if it doesn't say that: respond 400 then. Otherwise respond 202, call the URI
-        (`Replaces` as a header: `str(refer.replaces)`), and report how that goes by
+        place of. None if it doesn't say that: respond 400 then. Otherwise ask the user, since the
+        peer chooses who is called; respond 202; call the URI, with `str(refer.replaces)` as the
+        header Replaces if there is one; and report how that goes by
         `call.request("NOTIFY", b"SIP/2.0 180 Ringing", ..)` with the headers Event, `refer`;
         Subscription-State, `active;expires=60`, at last `terminated;reason=noresource`; and
         Content-Type, `message/sipfrag` (RFC 3515). A peer that responds 481 to such a NOTIFY ends
@@ -483,8 +484,9 @@ class Call:
         self._heard = b""
         self._session = None if timer is None else Session(timer, self._refresh, self._expire)
         self._is_lost = False
-        # What the peer reports of a transfer.
+        # The last report of a transfer that goes on; the CSeq numbers of the REFERs that are over.
         self._has_referred = False
+        self._past_refers: Set[str] = set()
         self._report: "Optional[asyncio.Future[FinalResponse]]" = None
         self._is_settled: "asyncio.Future[None]" = loop.create_future()
         self._end: "asyncio.Future[Ended]" = loop.create_future()
@@ -523,8 +525,7 @@ class Call:
         481 and 408 end the call, also those to a NOTIFY (RFC 3261, section 12.2.1.2). If the call
         ends first, the request is given up, and this returns 481; if this is cancelled, it is given
         up, too. A peer may answer a re-INVITE by a 100 alone: bound that by `asyncio.wait_for`.
-        BYE, CANCEL, ACK and
-        PRACK raise MethodError: to end the call, use `hang_up`."""
+        BYE, CANCEL, ACK and PRACK raise MethodError: to end the call, use `hang_up`."""
         if method != "INVITE":
             check_method(method)
         if self._tags is None or not self.is_up:
@@ -574,13 +575,23 @@ class Call:
         self._report = report
         try:
             taken = await self.request("REFER", headers=[refer, *headers])
-            if not taken.is_success or is_unreported(taken.message):
+            if not taken.is_success or taken.message is None or is_unreported(taken.message):
                 return taken
-            waits_for: "List[asyncio.Future[Any]]" = [report, self._end]
-            await asyncio.wait(waits_for, return_when=asyncio.FIRST_COMPLETED)
+            await self._reported(report, taken.message)
         finally:
             self._report = None
         return report.result() if report.done() else NO_CALL
+
+    async def _reported(
+        self, report: "asyncio.Future[FinalResponse]", taken: Message
+    ) -> None:
+        """Waits for the last report of a REFER, or the end of the call. Later reports of it aren't
+        taken for those of another REFER (RFC 3515, section 2.4.6)."""
+        waits_for: "List[asyncio.Future[Any]]" = [report, self._end]
+        try:
+            await asyncio.wait(waits_for, return_when=asyncio.FIRST_COMPLETED)
+        finally:
+            self._past_refers.add(str(number_of(taken.value("CSeq"))))
 
     def _refer_to(self) -> str:
         """The Refer-To by which another peer takes our place in this call."""
@@ -712,10 +723,12 @@ class Call:
 
     def _takes_report(self, message: Message) -> bool:
         """Whether a NOTIFY reports a transfer."""
-        if not self._has_referred or not message.value("Event").lower().startswith("refer"):
+        package, *parameters = [it.strip().lower() for it in message.value("Event").split(";")]
+        if not self._has_referred or package != "refer":
             return False
+        is_past = any(f"id={number}" in parameters for number in self._past_refers)
         status, reason, is_last = report_of(message)
-        if is_last and self._report is not None and not self._report.done():
+        if is_last and not is_past and self._report is not None and not self._report.done():
             self._report.set_result(FinalResponse(status or 100, reason))
         return True
 
@@ -851,9 +864,8 @@ class OutgoingCall(Call):
         if not self._end.done():
             self._agent.ask(AbandonRequest(self.call_id, self._id))
             self._agent.forget(self._id)
-            self._finish(
-                Ended(FinalResponse(408, "Request Timeout"), reason=Reason.CANCELLED)
-            )
+            response = FinalResponse(408, "Request Timeout")
+            self._finish(Ended(response, reason=Reason.CANCELLED))
 
     def _fail(self, end: Ended) -> None:
         if self._answer is None:
@@ -1018,9 +1030,9 @@ def expect_options(request: IncomingRequest) -> None:
         asyncio.get_running_loop().call_later(UNREAD_S, request.refuse)
 
 
-def is_unreported(message: Optional[Message]) -> bool:
+def is_unreported(message: Message) -> bool:
     """Whether the 2xx to a REFER says that no reports follow (RFC 4488)."""
-    return message is not None and message.value("Refer-Sub").lower().startswith("false")
+    return message.value("Refer-Sub").lower().startswith("false")
 
 
 def is_no_request(event: Event) -> bool:
@@ -1077,16 +1089,15 @@ class UserAgent:
     closes it, as does leaving its `async with`.
 
     `uri` is the user's own, which From says; `profile`, a sip_ua_headers.Profile, what its headers
-    say of it. `proxy` is where all requests go, otherwise to the
-    address in their URI. The username and the password answer challenges. `on_request` is called
-    with each request outside of calls; without it, they are refused. It may be an async function. A
-    request gets 500 if it raises, or if it is async and ends without an answer; what it raises goes
-    to the event loop's handler of exceptions. A peer's call gets 503 while there are `most_calls`,
-    one's own among them; `call` has no limit. An OPTIONS that isn't answered within half a second
-    gets a 200. With a journal, `left`, a set of str, has the
-    Call-IDs of the calls that a process which died left, or for which `close` didn't wait long
-    enough. They end as by `hang_up`, from the first round on, 20 each 10 ms; what becomes of this
-    isn't told, but `close` waits for it."""
+    say of it. `proxy` is where all requests go, otherwise to the address in their URI. The username
+    and the password answer challenges. `on_request` is called with each request outside of calls;
+    without it, they are refused. It may be an async function. A request gets 500 if it raises, or
+    if it is async and ends without an answer; what it raises goes to the event loop's handler of
+    exceptions. An OPTIONS that it doesn't answer within half a second gets a 200. A peer's call
+    gets 503 while there are `most_calls`, one's own among them; `call` has no limit. With a
+    journal, `left`, a set of str, has the Call-IDs of the calls that a process which died left, or
+    for which `close` didn't wait long enough. They end as by `hang_up`, from the first round on, 20
+    each 10 ms; what becomes of this isn't told, but `close` waits for it."""
 
     endpoint: Endpoint
     uri: str

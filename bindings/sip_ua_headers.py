@@ -62,6 +62,10 @@ def supported_by(headers: Headers) -> Set[str]:
     return {tag.strip().lower() for value in values for tag in str(value).split(",")}
 
 
+def is_token(word: object) -> bool:
+    return isinstance(word, str) and _TOKEN.fullmatch(word) is not None
+
+
 def is_text(text: object) -> bool:
     return isinstance(text, str) and re.search(r"[\r\n]", text) is None
 
@@ -78,8 +82,7 @@ class Profile:
 
     def __post_init__(self) -> None:
         for words in (self.allow, self.supports):
-            is_right = not isinstance(words, str) and all(_TOKEN.fullmatch(it) for it in words)
-            if not is_right:
+            if isinstance(words, str) or not all(is_token(it) for it in words):
                 raise BadValueError(f"no tokens: {words!r}")
         if not is_text(self.name):
             raise BadValueError(f"no name of a user agent: {self.name!r}")

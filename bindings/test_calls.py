@@ -798,7 +798,9 @@ class PoliteTest(unittest.IsolatedAsyncioTestCase):
 
     async def test_what_cannot_be_said(self) -> None:
         wrong: Any
-        for wrong in ({"allow": "INVITE"}, {"supports": ["a b"]}, {"user_agent": "a\r\nb"}):
+        for wrong in (
+            {"allow": "INVITE"}, {"supports": ["a b"]}, {"allow": [5]}, {"user_agent": "a\r\nb"}
+        ):
             with self.assertRaises(BadValueError):
                 await open_user_agent(LIBRARY, ANY_PORT, **wrong)
 
@@ -916,6 +918,29 @@ class TransferTest(unittest.IsolatedAsyncioTestCase):
                 theirs.hang_up()
             self.assertEqual((await soon(transfer)).status, status)
             call.hang_up()
+
+    async def test_reports_of_a_transfer_that_was_given_up(self) -> None:
+        """They aren't taken for those of the next one."""
+        call, theirs = await self.up(self.two)
+        numbers: List[str] = []
+
+        async def take() -> None:
+            request = await next_request(theirs)
+            numbers.append(request.message.value("CSeq").split()[0])
+            request.respond(202, "Accepted")
+
+        for _ in range(2):
+            taking = asyncio.ensure_future(take())
+            transfer = asyncio.ensure_future(call.transfer(self.three.uri))
+            await soon(taking)
+            await asyncio.sleep(0.1)
+            if len(numbers) == 1:
+                transfer.cancel()
+        for number, status in zip(numbers, (408, 200)):
+            event = [("Event", f"refer;id={number}"), ("Subscription-State", "terminated")]
+            text = f"SIP/2.0 {status} Now".encode()
+            self.assertEqual((await soon(theirs.request("NOTIFY", text, event))).status, 200)
+        self.assertEqual((await soon(transfer)).status, 200)
 
     async def test_notifications_of_others(self) -> None:
         """They are the user's; so are those of a refer that wasn't asked for."""
