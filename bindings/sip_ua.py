@@ -562,8 +562,8 @@ class Message(NamedTuple):
 
     def values(self, name: str) -> List[str]:
         """The values of the header lines with this name, long or compact, in any case."""
-        wanted = _long_name(name)
-        return [value for name, value in self.headers if _long_name(name) == wanted]
+        wanted = long_name(name)
+        return [value for name, value in self.headers if long_name(name) == wanted]
 
     def value(self, name: str) -> str:
         """The first of them; empty if there is none."""
@@ -824,7 +824,7 @@ def _address(address: Address) -> _Address:
     return _Address((ctypes.c_uint8 * 4)(*packed), _number(port, 16))
 
 
-def _long_name(name: str) -> str:
+def long_name(name: str) -> str:
     """The long name of a header, in lower case."""
     lower = name.lower()
     return _COMPACT_NAMES.get(lower, lower)

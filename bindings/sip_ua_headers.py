@@ -17,6 +17,7 @@ from sip_ua import (
     Plain,
     Request,
     Response,
+    long_name,
 )
 
 __all__ = ["ALLOW", "Profile", "Refer", "Replaces", "names_of", "number_of", "refer_of"]
@@ -29,7 +30,6 @@ METHODS = {*ALLOW, *"INFO MESSAGE NOTIFY PUBLISH REFER REGISTER SUBSCRIBE UPDATE
 # Requests that carry a Contact, as do their 2xx, beside INVITE (RFC 3311, 3515 and 6665).
 WITH_CONTACT = {"NOTIFY", "REFER", "SUBSCRIBE", "UPDATE"}
 METHOD_NOT_ALLOWED = 405
-_LONG_NAMES = {"k": "supported", "m": "contact", "x": "session-expires"}
 _TOKEN = re.compile(r"[A-Za-z0-9\-.!%*_+`'~]+")
 _QUOTED = re.compile(r'"(?:[^"\\]|\\.)*"')
 _URI = re.compile(r'[A-Za-z][A-Za-z0-9+.-]*:[^\s<>"]+')
@@ -40,8 +40,7 @@ _REPORT = re.compile(rb"\s*SIP/2\.0 ([1-6]\d\d) ?([^\r\n]*)")
 
 def names_of(headers: Headers) -> Set[str]:
     """The long names of headers, in lower case."""
-    lower = [name.lower() for name, _ in headers if isinstance(name, str)]
-    return {_LONG_NAMES.get(name, name) for name in lower}
+    return {long_name(name) for name, _ in headers if isinstance(name, str)}
 
 
 def number_of(text: str) -> int:

@@ -38,7 +38,7 @@ from sip_ua_calls import (
 from sip_ua_headers import Refer, Replaces, refer_of, refer_to, replaces_of, report_of
 from sip_ua_journal import FileJournal, JournalError, JournalFull, JournalInUse
 from sip_ua_registration import RegistrationFailed, granted_s, register
-from sip_ua_timers import Timer
+from sip_ua_timers import Session, Timer
 from sip_ua_udp import LATELY_S, SentLately, open_endpoint
 
 LIBRARY = os.environ["SIP_UA_LIBRARY"]
@@ -621,9 +621,9 @@ class CallsTest(unittest.IsolatedAsyncioTestCase):
             uri = f"sip:b@127.0.0.1:{closed.getsockname()[1]}"
         begun = asyncio.get_running_loop().time()
         calls = [await self.one.call(uri, OFFER) for _ in range(3)]
-        asked = [self.one.request("OPTIONS", to) for to in (uri, self.two.uri, uri)]
+        asked = [self.one.request("OPTIONS", to) for to in 2 * (self.two.uri, uri, uri)]
         statuses = [response.status for response in await soon(asyncio.gather(*asked))]
-        self.assertEqual(statuses, [503, 200, 503])
+        self.assertEqual(statuses, 2 * [200, 503, 503])
         for call in calls:
             with self.assertRaises(CallFailed) as failed:
                 await soon(call.answered())
@@ -713,6 +713,18 @@ class PoliteTest(unittest.IsolatedAsyncioTestCase):
         await soon(asked)
         outgoing, incoming = await self.up(self.two, self.one)
         self.says(await outgoing.answered(), "Server")
+
+    async def test_refusals(self) -> None:
+        """They say nothing of that, but who refuses."""
+        coming = asyncio.ensure_future(next_call(self.one))
+        await asyncio.sleep(0)
+        outgoing = await self.two.call(self.one.uri, OFFER)
+        (await soon(coming)).reject()
+        end = await soon(outgoing.ended())
+        assert end.response is not None and end.response.message is not None
+        message = end.response.message
+        said = [message.values(name) for name in ("Allow", "Supported", "Accept", "Server")]
+        self.assertEqual(said, [[], [], [], ["One/1 (test)"]])
 
     async def test_options(self) -> None:
         for caller, callee in ((self.one, self.two), (self.two, self.one)):
@@ -984,6 +996,66 @@ class TransferTest(unittest.IsolatedAsyncioTestCase):
         self.assertEqual(read("active;expires=60", b"hello"), (0, "", False))
 
 
+class SessionTest(unittest.IsolatedAsyncioTestCase):
+    """The session timer of a call, by the times of RFC 4028."""
+
+    def session(self, *times: int) -> Session:
+        return Session(Timer(*times), lambda: None, lambda: None)
+
+    def message(self, **headers: Any) -> Message:
+        pairs = [(name.replace("_", "-"), str(value)) for name, value in headers.items()]
+        return Message(None, tuple(pairs), b"")  # type: ignore[arg-type]
+
+    async def test_when_something_is_due(self) -> None:
+        """The refresh at half of the time; the end at its end, or before where the peer refreshes,
+        by a third of the time, at most 32 s."""
+        wanted = {
+            "1800;refresher=uac": [900, 1800],
+            "1800": [900, 1800],
+            "1800 ; x=y; Refresher = UAS": [1768],
+            "90;refresher=uas": [60],
+            "3;refresher=uac": [45, 90],
+            "x": [],
+        }
+        now = asyncio.get_running_loop().time()
+        for value, dues in wanted.items():
+            session = self.session()
+            session.take_answer(self.message(Session_Expires=value))
+            told = sorted(round(handle.when() - now) for handle in session._handles)
+            self.assertEqual(told, dues)
+            session.stop()
+            self.assertTrue(all(handle.cancelled() for handle in session._handles))
+
+    async def test_an_answer_without_a_time(self) -> None:
+        session = self.session()
+        session.take_answer(self.message(x="600"))
+        self.assertEqual((session.interval_s, session.number), (600, 1))
+        session.take_answer(self.message())
+        self.assertEqual((session.interval_s, session._handles), (0, []))
+
+    async def test_times_that_are_too_short(self) -> None:
+        session = self.session(100)
+        self.assertFalse(session.takes_too_small(422, None))
+        self.assertFalse(session.takes_too_small(486, self.message(Min_SE=120)))
+        self.assertFalse(session.takes_too_small(422, self.message(Min_SE=100)))
+        self.assertEqual(session.asking()[1:], [("Session-Expires", "100"), ("Min-SE", "100")])
+        self.assertTrue(session.takes_too_small(422, self.message(Min_SE=120)))
+        self.assertEqual(session.asking()[1:], [("Session-Expires", "120"), ("Min-SE", "120")])
+        self.assertTrue(session.takes_too_small(422, self.message(Min_SE=130)))
+        self.assertFalse(session.takes_too_small(422, self.message(Min_SE=140)))
+
+    async def test_what_is_refused_and_answered(self) -> None:
+        session = self.session(200, 150)
+        short = self.message(Session_Expires=149, k="a, Timer")
+        self.assertEqual(session.refusal(short), [("Min-SE", "150")])
+        self.assertEqual(session.refusal(self.message(Session_Expires=149)), [])
+        self.assertEqual(session.refusal(self.message(Session_Expires=150, k="timer")), [])
+        self.assertEqual(session.refusal(self.message(k="timer")), [])
+        long = self.message(Session_Expires=900, Min_SE=300, Supported="timer")
+        self.assertEqual(session.answer(long), [("Session-Expires", "300;refresher=uas")])
+        session.stop()
+
+
 class TimerTest(unittest.IsolatedAsyncioTestCase):
     """Session timers, whose times may be shorter than those of RFC 4028."""
 
@@ -1130,11 +1202,75 @@ class TimerTest(unittest.IsolatedAsyncioTestCase):
             call = await agent.call(f"sip:b@127.0.0.1:{peer.port}", OFFER)
             await soon(call.answered())
             call._refresh()
-            await soon(until(lambda: peer.methods.count("ACK") == 3))
-        self.assertEqual(peer.methods, ["INVITE", "ACK"] * 3)
+            await asyncio.wait_for(until(lambda: peer.methods.count("ACK") == 3), 2)
+            # One of the user takes the place of a refresh.
+            asking = asyncio.ensure_future(call.request("INVITE", OFFER))
+            await asyncio.sleep(0)
+            call._refresh()
+            await soon(asking)
+            await asyncio.sleep(0.3)
+        self.assertEqual(peer.methods, ["INVITE", "ACK"] * 4)
         asked = [header(it, "Session-Expires") for it in peer.requests if it.startswith("INVITE")]
-        self.assertEqual(asked, ["9"] + 2 * ["9;refresher=uac"])
+        self.assertEqual(asked, ["9"] + 3 * ["9;refresher=uac"])
         self.assertTrue(call.is_up)
+
+    async def test_a_refresh_that_is_too_short(self) -> None:
+        """The peer asks for longer in a call that is up."""
+
+        def answer(message: str) -> List[str]:
+            if message.startswith("INVITE") and len(peer.requests) == 3:
+                return [response(message, "422 Too Small", "t", "Min-SE: 20\r\n")]
+            expires = header(message, "Session-Expires").partition(";")[0]
+            more = f"{peer.contact()}Session-Expires: {expires};refresher=uac\r\n"
+            is_ack = message.startswith("ACK")
+            return [] if is_ack else [response(message, "200 OK", "t", more, ANSWER.decode())]
+
+        peer = await open_peer(Peer(answer))
+        self.addCleanup(peer.close)
+        agent = await self.agent(9)
+        call = await agent.call(f"sip:b@127.0.0.1:{peer.port}", OFFER)
+        await soon(call.answered())
+        self.assertEqual((await soon(call.request("INVITE", OFFER))).status, 200)
+        invites = [it for it in peer.requests if it.startswith("INVITE")]
+        told = [(header(it, "Session-Expires"), header(it, "Min-SE")) for it in invites]
+        wanted = [("9", ""), ("9;refresher=uac", ""), ("20;refresher=uac", "20")]
+        self.assertEqual(told, wanted)
+
+    async def test_a_reinvite_that_is_too_short(self) -> None:
+        outgoing, incoming = await self.up(await self.agent(), await self.agent(9, 5))
+        headers = [("Session-Expires", "4"), ("Supported", "timer")]
+        response = await soon(outgoing.request("INVITE", OFFER, headers))
+        assert response.message is not None
+        self.assertEqual((response.status, response.message.value("Min-SE")), (422, "5"))
+        self.assertTrue(incoming.is_up)
+
+    async def test_the_answer_in_the_ack(self) -> None:
+        """Each side keeps what it said and heard last, for refreshes."""
+        one, two = await self.agent(9), await self.agent(9)
+        coming = asyncio.ensure_future(next_call(two))
+        await asyncio.sleep(0)
+        outgoing = await one.call(two.uri)
+        incoming = await soon(coming)
+        incoming.answer(OFFER)
+        await soon(outgoing.answered())
+        outgoing.acknowledge(ANSWER)
+        await soon(incoming.answered())
+        self.assertEqual((outgoing._said[0], outgoing._heard), (ANSWER, OFFER))
+        self.assertEqual((incoming._said[0], incoming._heard), (OFFER, ANSWER))
+        reading = asyncio.ensure_future(next_request(outgoing))
+        asked = asyncio.ensure_future(incoming.request("INVITE"))
+        again = await soon(reading)
+        again.respond(200, "OK", b"v=0\r\n", [("c", "application/sdp")])
+        await soon(asked)
+        incoming.acknowledge(b"v=1\r\n")
+        await soon(again.acknowledged())
+        self.assertEqual((incoming._said[0], incoming._heard), (b"v=1\r\n", b"v=0\r\n"))
+        self.assertEqual(outgoing._said, (b"v=0\r\n", [("c", "application/sdp")]))
+        self.assertEqual(outgoing._heard, b"v=1\r\n")
+        outgoing.hang_up()
+        await soon(asyncio.gather(outgoing.ended(), incoming.ended()))
+        sessions = outgoing._session, incoming._session
+        self.assertEqual([it and it.interval_s for it in sessions], [0, 0])
 
     async def test_what_a_caller_asks_for(self) -> None:
         """Who refreshes, and how long, by RFC 4028, section 9."""
