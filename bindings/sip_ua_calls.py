@@ -472,8 +472,10 @@ class Call:
         self._bye: Optional[Message] = None
         # The peer's requests that the user has to answer.
         self._open_requests: List[IncomingRequest] = []
-        # An INVITE of our own waits for its final response; the peer's last re-INVITE.
+        # An INVITE of our own waits for its final response, and others for that; the peer's last
+        # re-INVITE.
         self._is_inviting = False
+        self._turns = asyncio.Lock()
         self._reinvite: Optional[IncomingRequest] = None
         self._is_left = False
         # The body and the headers of the BYE.
@@ -524,10 +526,16 @@ class Call:
         """Sends a request in the call, such as INFO or a re-INVITE, and returns its final response.
         481 and 408 end the call, also those to a NOTIFY (RFC 3261, section 12.2.1.2). If the call
         ends first, the request is given up, and this returns 481; if this is cancelled, it is given
-        up, too. A peer may answer a re-INVITE by a 100 alone: bound that by `asyncio.wait_for`.
-        BYE, CANCEL, ACK and PRACK raise MethodError: to end the call, use `hang_up`."""
-        if method != "INVITE":
-            check_method(method)
+        up, too. A re-INVITE waits until the one before has its final response (section 14.1). A
+        peer may answer it by a 100 alone: bound that by `asyncio.wait_for`. BYE, CANCEL, ACK and
+        PRACK raise MethodError: to end the call, use `hang_up`."""
+        if method == "INVITE":
+            async with self._turns:
+                return await self._request(method, body, headers)
+        check_method(method)
+        return await self._request(method, body, headers)
+
+    async def _request(self, method: str, body: bytes, headers: Headers) -> FinalResponse:
         if self._tags is None or not self.is_up:
             return NO_CALL
         call_id, tags = self.call_id, self._tags
@@ -889,6 +897,7 @@ class OutgoingCall(Call):
             self._agent._hold(self, tags)
         reason = message.start.reason or ""
         if notice.status < 200:
+            self._heard = message.body or self._heard
             self._events.put(Progress(notice.status, reason, message))
         elif notice.status < 300:
             self._take_answer(tags, message)

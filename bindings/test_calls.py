@@ -421,6 +421,22 @@ class CallsTest(unittest.IsolatedAsyncioTestCase):
         self.assertEqual([response.status for response in await soon(crossing)], [491, 491])
         self.assertEqual((await soon(outgoing.request("INVITE", OFFER))).status, 488)
 
+    async def test_reinvites_wait_for_each_other(self) -> None:
+        outgoing, incoming = await self.up()
+
+        async def serve() -> None:
+            async for event in incoming:
+                if isinstance(event, IncomingRequest):
+                    await asyncio.sleep(0.05)
+                    event.respond(200, "OK", ANSWER)
+
+        serving = asyncio.ensure_future(serve())
+        asked = [outgoing.request("INVITE", OFFER) for _ in range(3)]
+        responses = await soon(asyncio.gather(*asked))
+        self.assertEqual([response.status for response in responses], [200, 200, 200])
+        outgoing.hang_up()
+        await soon(serving)
+
     async def test_requests_that_nobody_reads(self) -> None:
         outgoing, incoming = await self.up()
         statuses = {"INVITE": 488, "OPTIONS": 200, "INFO": 405}
