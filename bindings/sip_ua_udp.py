@@ -17,7 +17,8 @@ import socket
 import struct
 import sys
 import time
-from typing import Callable, Dict, Iterable, Iterator, Optional, Tuple, Union, cast
+from functools import partial
+from typing import Callable, Dict, Iterable, Iterator, List, Optional, Tuple, Union, cast
 
 from sip_ua import (
     LARGEST_DATAGRAM,
@@ -62,44 +63,50 @@ _MOST_QUOTED = 2048
 _MOST_TOLD = 512
 
 Address = Tuple[str, int]
+# A branch and a method.
+_Name = Tuple[str, str]
 OnTold = Callable[[Union[Notice, Drop]], None]
 
 
 class SentLately:
-    """The requests that were sent in the last LATELY_S, by their branch and method, and where to.
-    They alone can be refused by the network: who forges a refusal would have to know the branch."""
+    """The requests that were sent in the last LATELY_S, by their addresses. If the network refuses
+    one, it refuses all to that address. Who forges a refusal would have to know a branch."""
 
     def __init__(self) -> None:
-        # The latest stand last.
-        self._sent: Dict[Tuple[str, str], Tuple[float, Address]] = {}
+        # What was sent last stands last, and has its moment in s.
+        self._sent: Dict[Address, Dict[_Name, float]] = {}
 
     def add(self, datagram: bytes, to: Address, moment: float) -> None:
-        """Takes a datagram that is sent at a moment, in s."""
+        """Takes a datagram that is sent."""
         name = _name_of(datagram)
-        if name is not None:
-            self._sent.pop(name, None)
-            self._sent[name] = moment, to
-            self._forget(moment - LATELY_S)
-
-    def refused(self, quote: bytes, to: Address, moment: float) -> Optional[Tuple[str, str]]:
-        """The branch and the method of the request whose beginning is quoted, if it was sent to
-        this address lately."""
+        if name is None:
+            return
+        names = self._sent.pop(to, {})
+        names.pop(name, None)
+        names[name] = moment
+        self._sent[to] = names
+        while next(iter(names.values())) < moment - LATELY_S:
+            del names[next(iter(names))]
         self._forget(moment - LATELY_S)
-        name = _name_of(quote)
-        sent = self._sent.get(name) if name is not None else None
-        return name if sent is not None and sent[1] == to else None
 
     def _forget(self, moment: float) -> None:
-        """Forgets what was sent before a moment."""
-        while self._sent:
-            name, (sent_at, _) = next(iter(self._sent.items()))
-            if sent_at >= moment:
-                break
-            del self._sent[name]
+        """Forgets the addresses to which nothing was sent since a moment."""
+        while next(reversed(next(iter(self._sent.values())).values())) < moment:
+            del self._sent[next(iter(self._sent))]
+
+    def refused(self, quote: bytes, to: Address, moment: float) -> List[_Name]:
+        """The requests to an address, if one of them begins as it is quoted. They are forgotten."""
+        sent = self._sent.get(to, {})
+        names = [name for name, sent_at in sent.items() if sent_at >= moment - LATELY_S]
+        if _name_of(quote) not in names:
+            return []
+        del self._sent[to]
+        return names
 
 
-def _name_of(datagram: bytes) -> Optional[Tuple[str, str]]:
-    """The branch and the method of a request, also of its beginning alone; an ACK has none."""
+def _name_of(datagram: bytes) -> Optional[_Name]:
+    """The branch and the method of a request, also of its beginning alone. That of an ACK doesn't
+    count."""
     found = _REQUEST.match(datagram)
     if found is None or found[1] == b"ACK":
         return None
@@ -246,10 +253,12 @@ class Endpoint(asyncio.DatagramProtocol):
         if self._udp is None or self.is_closed:
             return
         for quote, to in _refusals(self._udp):
-            name = self._sent_lately.refused(quote, to, self._loop.time())
-            if name is not None:
-                branch, method = name
-                self._fail(lambda: self.agent.event_line(f"failed client {branch} {method}"))
+            self._refuse(quote, to)
+
+    def _refuse(self, quote: bytes, to: Address) -> None:
+        """Reports that the network refused a datagram."""
+        for branch, method in self._sent_lately.refused(quote, to, self._loop.time()):
+            self._fail(partial(self.agent.event_line, f"failed client {branch} {method}"))
 
     def _run_soon(self) -> None:
         if self._next is not None:
@@ -275,7 +284,7 @@ class Endpoint(asyncio.DatagramProtocol):
         if self.agent.is_reflected(output):
             self.reflected += 1
         elif not self._sends(output.datagram, output.to):
-            self._fail(lambda: self.agent.failed(output.index))
+            self._fail(partial(self.agent.failed, output.index))
 
     def tell(self, outputs: Iterable[Output]) -> None:
         """Tells the notices and drops of a round, and waits for the next one."""

@@ -129,27 +129,47 @@ class SentLatelyTest(unittest.TestCase):
     def test_what_was_sent(self) -> None:
         for quote in (self.sent, self.sent[: self.sent.index(b"Max")]):
             told = self.lately.refused(quote, self.there, 2.0)
-            self.assertEqual(told, ("z9hG4bKa1", "INVITE"))
+            self.assertEqual(told, [("z9hG4bKa1", "INVITE")])
+            # It has failed: another refusal tells nothing.
+            self.assertEqual(self.lately.refused(quote, self.there, 2.0), [])
+            self.setUp()
+
+    def test_all_that_was_sent_there(self) -> None:
+        for number, moment in ((2, 1.5), (3, 6.0), (2, 7.0)):
+            datagram = self.sent.replace(b"bKa1", b"bKa%d" % number)
+            self.lately.add(datagram, self.there, moment)
+        self.lately.add(self.sent, self.elsewhere, 7.0)
+        told = self.lately.refused(datagram, self.there, 8.0)
+        self.assertEqual(told, [("z9hG4bKa3", "INVITE"), ("z9hG4bKa2", "INVITE")])
+        self.assertEqual(len(self.lately.refused(self.sent, self.elsewhere, 8.0)), 1)
+
+    def test_what_is_forgotten(self) -> None:
+        """What was sent before, and addresses to which nothing was sent lately."""
+        for number in range(100):
+            datagram = self.sent.replace(b"bKa1", b"bKa%d" % number)
+            self.lately.add(datagram, self.there, float(number))
+            self.lately.add(datagram, ("192.0.2.8", 1 + number), float(number))
+        self.assertEqual([len(it) for it in self.lately._sent.values()], [1, 1, 1, 1, 5, 1])
 
     def test_what_was_not(self) -> None:
         """Another branch, method or address, a part of the branch, or nothing of it."""
         other = self.sent.replace(b"bKa1", b"bKa2")
         for quote in (other, self.sent.replace(b"INVITE", b"BYE"), b"", self.sent[:-30], b"\0\1"):
-            self.assertIsNone(self.lately.refused(quote, self.there, 2.0))
-        self.assertIsNone(self.lately.refused(self.sent, self.elsewhere, 2.0))
+            self.assertEqual(self.lately.refused(quote, self.there, 2.0), [])
+        self.assertEqual(self.lately.refused(self.sent, self.elsewhere, 2.0), [])
 
     def test_what_was_sent_long_ago(self) -> None:
-        self.assertIsNone(self.lately.refused(self.sent, self.there, 1.1 + LATELY_S))
+        self.assertEqual(self.lately.refused(self.sent, self.there, 1.1 + LATELY_S), [])
         # A request that is sent again may be refused again.
         self.lately.add(self.sent, self.there, 8.0)
-        self.assertIsNotNone(self.lately.refused(self.sent, self.there, 9.0))
+        self.assertEqual(len(self.lately.refused(self.sent, self.there, 9.0)), 1)
 
     def test_responses_and_acks(self) -> None:
         """They are no requests that end by it."""
         for datagram in (self.sent.replace(b"INVITE", b"ACK"), b"SIP/2.0 200 OK\r\nVia: x\r\n\r\n"):
             lately = SentLately()
             lately.add(datagram, self.there, 1.0)
-            self.assertIsNone(lately.refused(datagram, self.there, 1.0))
+            self.assertEqual(lately.refused(datagram, self.there, 1.0), [])
 
 
 class CallsTest(unittest.IsolatedAsyncioTestCase):
