@@ -110,7 +110,7 @@ def _name_of(datagram: bytes) -> Optional[_Name]:
     found = _REQUEST.match(datagram)
     if found is None or found[1] == b"ACK":
         return None
-    return found[2].decode("latin-1"), found[1].decode("ascii")
+    return found[2].decode("latin-1"), found[1].decode("latin-1")
 
 
 def _refusals(udp: socket.socket) -> Iterator[Tuple[bytes, Address]]:

@@ -153,8 +153,11 @@ class SentLatelyTest(unittest.TestCase):
 
     def test_what_was_not(self) -> None:
         """Another branch, method or address, a part of the branch, or nothing of it."""
-        other = self.sent.replace(b"bKa1", b"bKa2")
-        for quote in (other, self.sent.replace(b"INVITE", b"BYE"), b"", self.sent[:-30], b"\0\1"):
+        others = [
+            self.sent.replace(old, new)
+            for old, new in ((b"bKa1", b"bKa2"), (b"INVITE", b"BYE"), (b"INVITE", b"\xff"))
+        ]
+        for quote in (*others, b"", self.sent[:-30], b"\0\1"):
             self.assertEqual(self.lately.refused(quote, self.there, 2.0), [])
         self.assertEqual(self.lately.refused(self.sent, self.elsewhere, 2.0), [])
 
