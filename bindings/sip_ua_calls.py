@@ -107,7 +107,8 @@ RETRY_AFTER_S = 5
 MOST_RETRY_AFTER_S = 10
 # How many events of a call wait for its iterator; those that come then count as unread.
 MOST_UNREAD = 256
-# How long a request of the peer waits for an iterator of its call: T1, then peers send it again.
+# How long a request of the peer waits for an iterator of its call, and an OPTIONS for its answer:
+# T1, then peers send it again.
 UNREAD_S = 0.5
 # How often a request answers challenges.
 MOST_ANSWERS = 3
@@ -195,21 +196,19 @@ class Answered:
 
 
 class Reason(enum.Enum):
-    """Why a call has ended."""
+    """Why a call has ended. It was up, and one of the two hung up (BYE); or the peer no longer knew
+    it, didn't respond to a request, or didn't refresh its session in time (PEER_LOST). Before it
+    was up, either side cancelled it (CANCELLED) or refused it, also since no PRACK came (REFUSED);
+    the ACK of its 200 didn't come for 32 s (NO_ACK); no response to the INVITE came in time, or the
+    endpoint closed (TIMEOUT, also where that closed a call that was up); or the INVITE or its
+    response couldn't be sent, or the network refused it (UNREACHABLE)."""
 
-    # It was up, and one of the two hung up.
     BYE = "bye"
-    # It was cancelled before it was up, by either side.
-    CANCELLED = "cancelled"
-    # It was refused before it was up, by either side, or no PRACK came: `Ended.response` says how.
-    REFUSED = "refused"
-    # The 200 was sent again for 32 s, and its ACK never came.
-    NO_ACK = "no ack"
-    # It was up; then the peer no longer knew it, or answered a request or refreshed it in time.
     PEER_LOST = "peer lost"
-    # No response to the INVITE came in time, or the endpoint closed before the end.
+    CANCELLED = "cancelled"
+    REFUSED = "refused"
+    NO_ACK = "no ack"
     TIMEOUT = "timeout"
-    # The INVITE or a response to it couldn't be sent, or the network refused it.
     UNREACHABLE = "unreachable"
 
 
@@ -1536,8 +1535,10 @@ async def open_user_agent(
     `most_transactions` are as for `open_endpoint`. Without a URI, its own is that of its address.
 
     `allow` are the methods that you serve, such as `(*ALLOW, "INFO")`, and `supports` the option
-    tags of your extensions: INVITEs, their 2xx and the 200 of an OPTIONS say them. `user_agent` is
-    the value of User-Agent and Server. The session timer is that of all calls (sip_ua_timers.py).
+    tags of your extensions: INVITEs, their 2xx and the 200 of an OPTIONS say them (a request that
+    requires one, but 100rel, still gets 420). `user_agent` is the value of User-Agent and Server.
+    The session timer is that of all calls (sip_ua_timers.py). Raises BadValueError for what can't
+    be such values.
 
     With the path of a journal (sip_ua_journal.py), calls that a process left when it died are ended
     as soon as this one is open, by BYE, CANCEL or 480: `left` has their Call-IDs. If the journal

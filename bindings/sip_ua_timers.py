@@ -2,6 +2,9 @@
 side refreshes the session by a re-INVITE at half of its time; without that the other one hangs up.
 
     agent = await open_user_agent(.., session_timer=Timer(expires_s=600))
+
+A refresh has the last SDP of this side; one of the peer with its last SDP is answered by that, and
+isn't told. Nothing says `Require: timer`, and a request of a peer that does gets 420.
 """
 
 import asyncio
