@@ -1,11 +1,12 @@
 /* A call over UDP: `call IP PORT TO-IP TO-PORT URI SECONDS` calls the URI at an address with an
  * offer, prints what happens, and hangs up SECONDS after the answer. If nobody answers within 20 s,
  * it cancels the call. On Linux it ends at once where the port is closed. It takes reliable
- * provisional responses. If several branches of a fork answer, it keeps the first. Its status is 0 if the call was answered and has ended, otherwise 1.
+ * provisional responses. If several branches of a fork answer, it keeps the first. Its status is 0
+ * if the call was answered and has ended, otherwise 1.
  *
  * Commands are functions with the fields of a request, and notices are structs, so the program
- * parses nothing. It also shows a header of its own, the id of a command, and how to read the
- * datagram of a notice. */
+ * parses nothing but what ICMP quotes. It also shows a header of its own, the id of a command, and
+ * how to read the datagram of a notice. */
 #define _DEFAULT_SOURCE
 #include "sip_ua.h"
 
