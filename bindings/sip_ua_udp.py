@@ -18,7 +18,18 @@ import struct
 import sys
 import time
 from functools import partial
-from typing import Callable, Dict, Iterable, Iterator, List, Optional, Tuple, Union, cast
+from typing import (
+    Callable,
+    Dict,
+    Iterable,
+    Iterator,
+    List,
+    NamedTuple,
+    Optional,
+    Tuple,
+    Union,
+    cast,
+)
 
 from sip_ua import (
     LARGEST_DATAGRAM,
@@ -63,9 +74,14 @@ _MOST_QUOTED = 2048
 _MOST_TOLD = 512
 
 Address = Tuple[str, int]
-# A branch and a method.
-_Name = Tuple[str, str]
 OnTold = Callable[[Union[Notice, Drop]], None]
+
+
+class _Name(NamedTuple):
+    """What names a request."""
+
+    branch: str
+    method: str
 
 
 class SentLately:
@@ -77,21 +93,26 @@ class SentLately:
         self._sent: Dict[Address, Dict[_Name, float]] = {}
 
     def add(self, datagram: bytes, to: Address, moment: float) -> None:
-        """Takes a datagram that is sent."""
+        """Takes a datagram that is sent. An ACK with the branch of an INVITE says that this has its
+        final response."""
         name = _name_of(datagram)
         if name is None:
             return
         names = self._sent.pop(to, {})
         names.pop(name, None)
-        names[name] = moment
-        self._sent[to] = names
-        while next(iter(names.values())) < moment - LATELY_S:
+        if name.method == "ACK":
+            names.pop(_Name(name.branch, "INVITE"), None)
+        else:
+            names[name] = moment
+        while names and next(iter(names.values())) < moment - LATELY_S:
             del names[next(iter(names))]
+        if names:
+            self._sent[to] = names
         self._forget(moment - LATELY_S)
 
     def _forget(self, moment: float) -> None:
         """Forgets the addresses to which nothing was sent since a moment."""
-        while next(reversed(next(iter(self._sent.values())).values())) < moment:
+        while self._sent and next(reversed(next(iter(self._sent.values())).values())) < moment:
             del self._sent[next(iter(self._sent))]
 
     def refused(self, quote: bytes, to: Address, moment: float) -> List[_Name]:
@@ -105,12 +126,9 @@ class SentLately:
 
 
 def _name_of(datagram: bytes) -> Optional[_Name]:
-    """The branch and the method of a request, also of its beginning alone. That of an ACK doesn't
-    count."""
+    """The branch and the method of a request, also of its beginning alone."""
     found = _REQUEST.match(datagram)
-    if found is None or found[1] == b"ACK":
-        return None
-    return found[2].decode("latin-1"), found[1].decode("latin-1")
+    return None if found is None else _Name(found[2].decode("latin-1"), found[1].decode("latin-1"))
 
 
 def _refusals(udp: socket.socket) -> Iterator[Tuple[bytes, Address]]:

@@ -170,11 +170,15 @@ class SentLatelyTest(unittest.TestCase):
         self.assertEqual(len(self.lately.refused(self.sent, self.there, 9.0)), 1)
 
     def test_responses_and_acks(self) -> None:
-        """They are no requests that end by it."""
-        for datagram in (self.sent.replace(b"INVITE", b"ACK"), b"SIP/2.0 200 OK\r\nVia: x\r\n\r\n"):
-            lately = SentLately()
-            lately.add(datagram, self.there, 1.0)
-            self.assertEqual(lately.refused(datagram, self.there, 1.0), [])
+        """They are no requests that end by it. The INVITE of such an ACK has ended."""
+        ack = self.sent.replace(b"INVITE", b"ACK")
+        for datagram in (ack, self.sent.replace(b"INVITE sip:b@192.0.2.9", b"SIP/2.0 200 OK")):
+            self.lately.add(datagram, self.there, 1.0)
+            self.assertEqual(self.lately.refused(datagram, self.there, 1.0), [])
+        self.assertEqual(self.lately.refused(self.sent, self.there, 1.0), [])
+        self.assertEqual(self.lately._sent, {})
+        self.lately.add(ack, self.there, 2.0)
+        self.assertEqual(self.lately._sent, {})
 
 
 class CallsTest(unittest.IsolatedAsyncioTestCase):
