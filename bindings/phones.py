@@ -6,7 +6,8 @@
     phones.py LIBRARY registrar ADDR
         two phones register with passwords, and one calls the other
 
-In a call the phone holds, takes the call back and sends a tone, and one of the two hangs up."""
+In a call the phone holds, takes the call back and sends a tone, and one of the two hangs up. At the
+end, baresip is transferred to another phone, which refuses it and then answers."""
 
 import json
 import os
@@ -19,7 +20,7 @@ import threading
 import time
 from typing import List, Sequence
 
-PHONE, BARESIP = "127.0.0.1:5175", "127.0.0.1:5176"
+PHONE, BARESIP, OTHER = "127.0.0.1:5175", "127.0.0.1:5176", "127.0.0.1:5177"
 CONFIG = f"""sip_listen {BARESIP}
 module_path /usr/lib/baresip/modules
 module account.so
@@ -121,8 +122,25 @@ def talk(phone: Phone, baresip: Baresip, number: int) -> None:
     phone.wait_for("^ended$")
 
 
+def transfer(phone: Phone, other: Phone, through: str) -> None:
+    """Calls of the phone to baresip are handed to the other phone."""
+    for answer in ("busy", "answer"):
+        phone.say(f"call sip:carol@{through}")
+        phone.wait_for("^up$")
+        phone.say(f"transfer sip:dave@{OTHER}")
+        other.wait_for("^call from .*carol")
+        other.say(answer)
+        phone.wait_for("^transferred$" if answer == "answer" else "^not transferred: 486$")
+        phone.say("hangup")
+        phone.wait_for("^ended$")
+    other.wait_for("^up$")
+    other.say("hangup")
+    other.wait_for("^ended$")
+
+
 def with_baresip(library: str, calls: str, folder: str, through: str = BARESIP) -> int:
     baresip, phone = Baresip(folder), Phone(library, PHONE, "bob@127.0.0.1")
+    other = Phone(library, OTHER, "dave@127.0.0.1")
     try:
         for number in range(int(calls)):
             phone.say(f"call sip:carol@{through}")
@@ -136,11 +154,15 @@ def with_baresip(library: str, calls: str, folder: str, through: str = BARESIP) 
             phone.wait_for("^up$")
             talk(phone, baresip, number)
         print(f"  {calls} calls of baresip to phone.py")
+        transfer(phone, other, through)
+        print("  baresip transferred to another phone.py")
         phone.say("quit")
-        return phone.ran.wait(5)
+        other.say("quit")
+        return phone.ran.wait(5) or other.ran.wait(5)
     finally:
         baresip.ran.kill()
         phone.ran.kill()
+        other.ran.kill()
 
 
 def at_registrar(library: str, registrar: str) -> int:

@@ -562,8 +562,8 @@ class Message(NamedTuple):
 
     def values(self, name: str) -> List[str]:
         """The values of the header lines with this name, long or compact, in any case."""
-        wanted = _long_name(name)
-        return [value for name, value in self.headers if _long_name(name) == wanted]
+        wanted = long_name(name)
+        return [value for name, value in self.headers if long_name(name) == wanted]
 
     def value(self, name: str) -> str:
         """The first of them; empty if there is none."""
@@ -773,6 +773,7 @@ _DROP = 3
 _REQUEST = 1
 _RESPONSE = 2
 _COMPACT_NAMES = {
+    "b": "referred-by",
     "c": "content-type",
     "e": "content-encoding",
     "f": "from",
@@ -780,9 +781,13 @@ _COMPACT_NAMES = {
     "k": "supported",
     "l": "content-length",
     "m": "contact",
+    "o": "event",
+    "r": "refer-to",
     "s": "subject",
     "t": "to",
+    "u": "allow-events",
     "v": "via",
+    "x": "session-expires",
 }
 _HEADERS = (
     "Via From To Call-ID CSeq Max-Forwards Content-Length RSeq RAck Contact Record-Route Route "
@@ -819,7 +824,7 @@ def _address(address: Address) -> _Address:
     return _Address((ctypes.c_uint8 * 4)(*packed), _number(port, 16))
 
 
-def _long_name(name: str) -> str:
+def long_name(name: str) -> str:
     """The long name of a header, in lower case."""
     lower = name.lower()
     return _COMPACT_NAMES.get(lower, lower)

@@ -5,8 +5,8 @@
             ..
 
 It answers challenges by Digest, asks for longer after a 423, refreshes the binding by what the
-registrar granted, tries again if a refresh fails, and unregisters at the end of the `async with`. To
-end all: hang up the calls, await their `ended`, leave the registration, then the agent.
+registrar granted, tries again if a refresh fails, and unregisters at the end of the `async with`.
+To end all: hang up the calls, await their `ended`, leave the registration, then the agent.
 """
 
 import asyncio
@@ -17,6 +17,7 @@ from typing import AsyncIterator, Iterator, List, Optional
 from sip_ua import Address, Error, Headers, Message, SipUaError
 from sip_ua_calls import CLOSE_S, FinalResponse, Stream, UserAgent, uri_of
 from sip_ua_digest import Authenticator
+from sip_ua_headers import number_of
 
 __all__ = ["Registration", "RegistrationFailed", "register"]
 
@@ -199,12 +200,6 @@ async def register(
     registration = Registration(agent, uri, password, address, username, contact, expires_s)
     await registration.start()
     return registration
-
-
-def number_of(text: str) -> int:
-    """The number that a header value begins with, 0 without one."""
-    found = re.match(r"\d{1,10}", text)
-    return int(found[0]) if found else 0
 
 
 def contacts_of(message: Message) -> Iterator[str]:

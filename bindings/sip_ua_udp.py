@@ -14,8 +14,22 @@ import asyncio
 import os
 import re
 import socket
+import struct
+import sys
 import time
-from typing import Callable, Iterable, Optional, Tuple, Union, cast
+from functools import partial
+from typing import (
+    Callable,
+    Dict,
+    Iterable,
+    Iterator,
+    List,
+    NamedTuple,
+    Optional,
+    Tuple,
+    Union,
+    cast,
+)
 
 from sip_ua import (
     LARGEST_DATAGRAM,
@@ -42,18 +56,111 @@ _OF_CALL = re.compile(
     rb"\A\s*CANCEL |^(?:to|t)[ \t]*:[^\r\n]*;[ \t]*tag[ \t]*=", re.IGNORECASE | re.MULTILINE
 )
 
+# How long after a request was sent the network may refuse it.
+LATELY_S = 4.0
+# How often a datagram is sent whose send fails by the refusal of an earlier one.
+MOST_TRIES = 5
+# The method and the branch of a request that an agent wrote.
+_REQUEST = re.compile(rb"([^ /\r\n]+) [^\r\n]* SIP/2\.0\r\nVia: [^\r\n]*;branch=([^;\r\n]+)\r\n")
+# Linux, ip(7): the socket option that keeps refusals, and the begin of struct sock_extended_err: an
+# error number, who told it, and the type and the code of the ICMP message.
+_IP_RECVERR = 11
+_REFUSAL = struct.Struct("=IBBB")
+_TOLD_BY_ICMP = 2
+_UNREACHABLE = 3
+# No way to the network, the host, the protocol or the port (RFC 3261, section 18.4).
+_REFUSING_CODES = range(4)
+_MOST_QUOTED = 2048
+_MOST_TOLD = 512
+
 Address = Tuple[str, int]
 OnTold = Callable[[Union[Notice, Drop]], None]
+
+
+class _Name(NamedTuple):
+    """What names a request."""
+
+    branch: str
+    method: str
+
+
+class SentLately:
+    """The requests that were sent in the last LATELY_S, by their addresses. If the network refuses
+    one, it refuses all to that address. Who forges a refusal would have to know a branch."""
+
+    def __init__(self) -> None:
+        # What was sent last stands last, and has its moment in s.
+        self._sent: Dict[Address, Dict[_Name, float]] = {}
+
+    def add(self, datagram: bytes, to: Address, moment: float) -> None:
+        """Takes a datagram that is sent. An ACK with the branch of an INVITE says that this has its
+        final response."""
+        name = _name_of(datagram)
+        if name is None:
+            return
+        names = self._sent.pop(to, {})
+        names.pop(name, None)
+        if name.method == "ACK":
+            names.pop(_Name(name.branch, "INVITE"), None)
+        else:
+            names[name] = moment
+        while names and next(iter(names.values())) < moment - LATELY_S:
+            del names[next(iter(names))]
+        if names:
+            self._sent[to] = names
+        self._forget(moment - LATELY_S)
+
+    def _forget(self, moment: float) -> None:
+        """Forgets the addresses to which nothing was sent since a moment."""
+        while self._sent and next(reversed(next(iter(self._sent.values())).values())) < moment:
+            del self._sent[next(iter(self._sent))]
+
+    def refused(self, quote: bytes, to: Address, moment: float) -> List[_Name]:
+        """The requests to an address, if one of them begins as it is quoted. They are forgotten."""
+        sent = self._sent.get(to, {})
+        names = [name for name, sent_at in sent.items() if sent_at >= moment - LATELY_S]
+        if _name_of(quote) not in names:
+            return []
+        del self._sent[to]
+        return names
+
+
+def _name_of(datagram: bytes) -> Optional[_Name]:
+    """The branch and the method of a request, also of its beginning alone."""
+    found = _REQUEST.match(datagram)
+    return None if found is None else _Name(found[2].decode("latin-1"), found[1].decode("latin-1"))
+
+
+def _refusals(udp: socket.socket) -> Iterator[Tuple[bytes, Address]]:
+    """Takes from a socket what ICMP refused: what it quotes of each datagram, and where that went.
+    Only Linux tells it."""
+    while sys.platform == "linux":
+        try:
+            quote, told, _, to = udp.recvmsg(_MOST_QUOTED, _MOST_TOLD, socket.MSG_ERRQUEUE)
+        except OSError:
+            return
+        if any(_is_refusal(*one) for one in told):
+            yield quote, to
+
+
+def _is_refusal(level: int, kind: int, data: bytes) -> bool:
+    """Whether a message about a socket tells that a datagram was refused."""
+    if (level, kind) != (socket.IPPROTO_IP, _IP_RECVERR) or len(data) < _REFUSAL.size:
+        return False
+    _, told_by, icmp_type, code = _REFUSAL.unpack_from(data)
+    is_unreachable = (told_by, icmp_type) == (_TOLD_BY_ICMP, _UNREACHABLE)
+    return is_unreachable and code in _REFUSING_CODES
 
 
 class Endpoint(asyncio.DatagramProtocol):
     """An agent with its socket. `open_endpoint` opens one, and `close` closes it. `agent` is the
     Agent. `local` is what Via and Contact say. A request that would begin a transaction may have
-    `largest` bytes: 16,384, unless you set it. `lost` counts the datagrams that were larger, or had
-    no room in a round or above `most_transactions`, and `reflected` the responses that weren't sent
-    since their request came again from another address (`Agent.is_reflected`). `is_closed` says
-    whether it was closed: by `close`, or since its journal couldn't be written. Then `ask` raises
-    Error NO_AGENT. `on_closed`, if it is set, is called then."""
+    `largest` bytes: 16,384, unless you set it. On Linux a request that the network refuses (ICMP:
+    unreachable) fails, as one that the socket refuses. `lost` counts the datagrams that were
+    larger, or had no room in a round or above `most_transactions`, and `reflected` the responses
+    that weren't sent since their request came again from another address (`Agent.is_reflected`).
+    `is_closed` says whether it was closed: by `close`, or since its journal couldn't be written.
+    Then `ask` raises Error NO_AGENT. `on_closed`, if it is set, is called then."""
 
     def __init__(
         self,
@@ -63,6 +170,7 @@ class Endpoint(asyncio.DatagramProtocol):
         most_transactions: int,
         journal: Optional[Journal] = None,
         moment: int = 0,
+        udp: Optional[socket.socket] = None,
     ):
         self.agent = agent
         self.local = local
@@ -78,6 +186,9 @@ class Endpoint(asyncio.DatagramProtocol):
         self._next: Optional[asyncio.Handle] = None
         self._transport: Optional[asyncio.DatagramTransport] = None
         self._has_failed = False
+        # The socket that tells what was refused.
+        self._udp = udp
+        self._sent_lately = SentLately()
         self.is_closed = False
         # Called once it is closed.
         self.on_closed: Optional[Callable[[], None]] = None
@@ -157,6 +268,15 @@ class Endpoint(asyncio.DatagramProtocol):
     def error_received(self, exc: Exception) -> None:
         """A send failed: called within sendto, or later if the network refused it."""
         self._has_failed = True
+        if self._udp is None or self.is_closed:
+            return
+        for quote, to in _refusals(self._udp):
+            self._refuse(quote, to)
+
+    def _refuse(self, quote: bytes, to: Address) -> None:
+        """Reports that the network refused a datagram."""
+        for branch, method in self._sent_lately.refused(quote, to, self._loop.time()):
+            self._fail(partial(self.agent.event_line, f"failed client {branch} {method}"))
 
     def _run_soon(self) -> None:
         if self._next is not None:
@@ -182,7 +302,7 @@ class Endpoint(asyncio.DatagramProtocol):
         if self.agent.is_reflected(output):
             self.reflected += 1
         elif not self._sends(output.datagram, output.to):
-            self._fail(output)
+            self._fail(partial(self.agent.failed, output.index))
 
     def tell(self, outputs: Iterable[Output]) -> None:
         """Tells the notices and drops of a round, and waits for the next one."""
@@ -206,15 +326,19 @@ class Endpoint(asyncio.DatagramProtocol):
         that UDP can't carry is refused here."""
         if len(data) > LARGEST_DATAGRAM or self._transport is None:
             return False
-        self._has_failed = False
-        self._transport.sendto(data, to)
-        return not self._has_failed
+        self._sent_lately.add(data, to, self._loop.time())
+        for _ in range(MOST_TRIES):
+            self._has_failed = False
+            self._transport.sendto(data, to)
+            if not self._has_failed:
+                return True
+        return False
 
-    def _fail(self, output: Send) -> None:
+    def _fail(self, tell: Callable[[], None]) -> None:
         """Reports a send that failed. Where the next round has no room for that, its transaction
         ends by its timers."""
         try:
-            self.agent.failed(output.index)
+            tell()
         except Error as error:
             if error.status != Status.TOO_MANY_EVENTS:
                 raise
@@ -284,6 +408,8 @@ def _bound(address: Address) -> socket.socket:
     udp = socket.socket(socket.AF_INET, socket.SOCK_DGRAM)
     try:
         udp.setblocking(False)
+        if sys.platform == "linux":
+            udp.setsockopt(socket.IPPROTO_IP, _IP_RECVERR, 1)
         udp.bind(address)
     except BaseException:
         udp.close()
@@ -303,7 +429,8 @@ async def _open(
     moment = 0 if journal is None else max(int(time.time() * 1000), begun.moment or 0)
     loop = asyncio.get_running_loop()
     _, endpoint = await loop.create_datagram_endpoint(
-        lambda: Endpoint(begun.agent, local, on_told, most_transactions, journal, moment), sock=udp
+        lambda: Endpoint(begun.agent, local, on_told, most_transactions, journal, moment, udp),
+        sock=udp,
     )
     if begun.moment is not None:
         loop.call_soon(endpoint.tell, begun.outputs)

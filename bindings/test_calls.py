@@ -5,6 +5,7 @@ examples/c/register.c. The examples are on the path."""
 import asyncio
 import os
 import socket
+import sys
 import tempfile
 import unittest
 from typing import Any, Awaitable, Callable, List, Tuple, TypeVar
@@ -15,6 +16,7 @@ from click_to_call import connect
 from scripted import Peer, Registrar, header, is_answer_right, open_peer, response
 from sip_ua import AddressError, BadValueError, Error, HeaderTypeError, Message, SipUaError
 from sip_ua_calls import (
+    ALLOW,
     NO_ACK,
     Answered,
     Call,
@@ -27,14 +29,17 @@ from sip_ua_calls import (
     OnRequest,
     OutgoingCall,
     Progress,
+    Reason,
     SecondReaderError,
     UserAgent,
     address_of,
     open_user_agent,
 )
+from sip_ua_headers import Refer, Replaces, refer_of, refer_to, replaces_of, report_of
 from sip_ua_journal import FileJournal, JournalError, JournalFull, JournalInUse
 from sip_ua_registration import RegistrationFailed, granted_s, register
-from sip_ua_udp import open_endpoint
+from sip_ua_timers import Session, Timer
+from sip_ua_udp import LATELY_S, SentLately, open_endpoint
 
 LIBRARY = os.environ["SIP_UA_LIBRARY"]
 ANY_PORT = ("127.0.0.1", 0)
@@ -45,6 +50,8 @@ OPTIONS = (
     "CSeq: 1 OPTIONS\r\n\r\n"
 )
 PATIENCE_S = 30.0
+# What takes less doesn't wait for timers, on a busy machine either.
+SOON_S = 4.0
 # 64 times T1, and a second.
 NO_ACK_S = 33.0
 # How a registrar challenges.
@@ -78,6 +85,14 @@ async def next_call(agent: UserAgent) -> IncomingCall:
     raise AssertionError("no call")
 
 
+async def next_request(call: Call) -> IncomingRequest:
+    """The next request of the peer; other events are passed over."""
+    async for event in call:
+        if isinstance(event, IncomingRequest):
+            return event
+    raise AssertionError("no request")
+
+
 async def until(is_so: Callable[[], bool]) -> None:
     while not is_so():
         await asyncio.sleep(0.01)
@@ -98,6 +113,72 @@ class ErrorsTest(unittest.TestCase):
             (JournalFull, OSError),
         ):
             self.assertTrue(issubclass(kind, SipUaError) and issubclass(kind, base))
+
+
+class SentLatelyTest(unittest.TestCase):
+    """What the network may refuse."""
+
+    there, elsewhere = ("192.0.2.9", 5060), ("192.0.2.9", 5062)
+    sent = (
+        b"INVITE sip:b@192.0.2.9 SIP/2.0\r\n"
+        b"Via: SIP/2.0/UDP 192.0.2.1:5060;rport;branch=z9hG4bKa1\r\nMax-Forwards: 70\r\n"
+    )
+
+    def setUp(self) -> None:
+        self.lately = SentLately()
+        self.lately.add(self.sent, self.there, 1.0)
+
+    def test_what_was_sent(self) -> None:
+        for quote in (self.sent, self.sent[: self.sent.index(b"Max")]):
+            told = self.lately.refused(quote, self.there, 2.0)
+            self.assertEqual(told, [("z9hG4bKa1", "INVITE")])
+            # It has failed: another refusal tells nothing.
+            self.assertEqual(self.lately.refused(quote, self.there, 2.0), [])
+            self.setUp()
+
+    def test_all_that_was_sent_there(self) -> None:
+        for number, moment in ((2, 1.5), (3, 6.0), (2, 7.0)):
+            datagram = self.sent.replace(b"bKa1", b"bKa%d" % number)
+            self.lately.add(datagram, self.there, moment)
+        self.lately.add(self.sent, self.elsewhere, 7.0)
+        told = self.lately.refused(datagram, self.there, 8.0)
+        self.assertEqual(told, [("z9hG4bKa3", "INVITE"), ("z9hG4bKa2", "INVITE")])
+        self.assertEqual(len(self.lately.refused(self.sent, self.elsewhere, 8.0)), 1)
+
+    def test_what_is_forgotten(self) -> None:
+        """What was sent before, and addresses to which nothing was sent lately."""
+        for number in range(100):
+            datagram = self.sent.replace(b"bKa1", b"bKa%d" % number)
+            self.lately.add(datagram, self.there, float(number))
+            self.lately.add(datagram, ("192.0.2.8", 1 + number), float(number))
+        self.assertEqual([len(it) for it in self.lately._sent.values()], [1, 1, 1, 1, 5, 1])
+
+    def test_what_was_not(self) -> None:
+        """Another branch, method or address, a part of the branch, or nothing of it."""
+        others = [
+            self.sent.replace(old, new)
+            for old, new in ((b"bKa1", b"bKa2"), (b"INVITE", b"BYE"), (b"INVITE", b"\xff"))
+        ]
+        for quote in (*others, b"", self.sent[:-30], b"\0\1"):
+            self.assertEqual(self.lately.refused(quote, self.there, 2.0), [])
+        self.assertEqual(self.lately.refused(self.sent, self.elsewhere, 2.0), [])
+
+    def test_what_was_sent_long_ago(self) -> None:
+        self.assertEqual(self.lately.refused(self.sent, self.there, 1.1 + LATELY_S), [])
+        # A request that is sent again may be refused again.
+        self.lately.add(self.sent, self.there, 8.0)
+        self.assertEqual(len(self.lately.refused(self.sent, self.there, 9.0)), 1)
+
+    def test_responses_and_acks(self) -> None:
+        """They are no requests that end by it. The INVITE of such an ACK has ended."""
+        ack = self.sent.replace(b"INVITE", b"ACK")
+        for datagram in (ack, self.sent.replace(b"INVITE sip:b@192.0.2.9", b"SIP/2.0 200 OK")):
+            self.lately.add(datagram, self.there, 1.0)
+            self.assertEqual(self.lately.refused(datagram, self.there, 1.0), [])
+        self.assertEqual(self.lately.refused(self.sent, self.there, 1.0), [])
+        self.assertEqual(self.lately._sent, {})
+        self.lately.add(ack, self.there, 2.0)
+        self.assertEqual(self.lately._sent, {})
 
 
 class CallsTest(unittest.IsolatedAsyncioTestCase):
@@ -159,8 +240,8 @@ class CallsTest(unittest.IsolatedAsyncioTestCase):
         incoming.hang_up()
         end = await soon(outgoing.ended())
         assert end.message is not None
-        self.assertEqual(end.message.method, "BYE")
-        self.assertEqual(await soon(incoming.ended()), Ended())
+        self.assertEqual((end.message.method, end.reason), ("BYE", Reason.BYE))
+        self.assertEqual(await soon(incoming.ended()), Ended(reason=Reason.BYE))
         # The events were kept. A later iterator gives the end alone.
         kinds = [type(event) for event in await soon(events_of(outgoing))]
         self.assertEqual(kinds, [Progress, Answered, Ended])
@@ -255,6 +336,8 @@ class CallsTest(unittest.IsolatedAsyncioTestCase):
         end = await soon(incoming.ended())
         assert end.response is not None and end.message is not None
         self.assertEqual((end.response.status, end.message.method), (487, "CANCEL"))
+        self.assertEqual(end.reason, Reason.CANCELLED)
+        self.assertEqual((await soon(outgoing.ended())).reason, Reason.CANCELLED)
         incoming.answer(ANSWER)
         with self.assertRaises(CallFailed):
             await soon(incoming.answered())
@@ -277,7 +360,9 @@ class CallsTest(unittest.IsolatedAsyncioTestCase):
         self.assertEqual((response.status, response.reason), (486, "Busy Here"))
         self.assertEqual(response.message.value("Retry-After"), "60")
         self.assertEqual((await soon(told))[-1], await soon(outgoing.ended()))
-        self.assertEqual((await soon(incoming.ended())).response, (486, "Busy Here", None))
+        end = await soon(incoming.ended())
+        self.assertEqual((end.response, end.reason), ((486, "Busy Here", None), Reason.REFUSED))
+        self.assertEqual((await soon(outgoing.ended())).reason, Reason.REFUSED)
 
     async def test_nobody_takes_calls(self) -> None:
         outgoing = await self.one.call(self.two.uri, OFFER)
@@ -364,6 +449,22 @@ class CallsTest(unittest.IsolatedAsyncioTestCase):
         )
         self.assertEqual([response.status for response in await soon(crossing)], [491, 491])
         self.assertEqual((await soon(outgoing.request("INVITE", OFFER))).status, 488)
+
+    async def test_reinvites_wait_for_each_other(self) -> None:
+        outgoing, incoming = await self.up()
+
+        async def serve() -> None:
+            async for event in incoming:
+                if isinstance(event, IncomingRequest):
+                    await asyncio.sleep(0.05)
+                    event.respond(200, "OK", ANSWER)
+
+        serving = asyncio.ensure_future(serve())
+        asked = [outgoing.request("INVITE", OFFER) for _ in range(3)]
+        responses = await soon(asyncio.gather(*asked))
+        self.assertEqual([response.status for response in responses], [200, 200, 200])
+        outgoing.hang_up()
+        await soon(serving)
 
     async def test_requests_that_nobody_reads(self) -> None:
         outgoing, incoming = await self.up()
@@ -558,6 +659,28 @@ class CallsTest(unittest.IsolatedAsyncioTestCase):
             self.assertIn(b"z9hG4bKright", answer)
         self.assertEqual(endpoint.lost, 1)
 
+    @unittest.skipUnless(sys.platform == "linux", "only Linux tells what was refused")
+    async def test_requests_to_a_closed_port(self) -> None:
+        """They fail at once, also in a call that is up, and what is sent beside them goes out."""
+        with bound("127.0.0.1") as closed:
+            uri = f"sip:b@127.0.0.1:{closed.getsockname()[1]}"
+        begun = asyncio.get_running_loop().time()
+        calls = [await self.one.call(uri, OFFER) for _ in range(3)]
+        asked = [self.one.request("OPTIONS", to) for to in 2 * (self.two.uri, uri, uri)]
+        statuses = [response.status for response in await soon(asyncio.gather(*asked))]
+        self.assertEqual(statuses, 2 * [200, 503, 503])
+        for call in calls:
+            with self.assertRaises(CallFailed) as failed:
+                await soon(call.answered())
+            self.assertEqual(failed.exception.response.status, 503)
+            self.assertEqual((await soon(call.ended())).reason, Reason.UNREACHABLE)
+        outgoing, _ = await self.up()
+        self.two.endpoint.close()
+        await self.two.endpoint.wait_closed()
+        self.assertEqual((await soon(outgoing.request("INFO"))).status, 503)
+        self.assertTrue(outgoing.is_up)
+        self.assertLess(asyncio.get_running_loop().time() - begun, SOON_S)
+
     async def test_a_repeat_from_another_address(self) -> None:
         """The response isn't sent again to whoever asked first."""
         loop = asyncio.get_running_loop()
@@ -583,6 +706,655 @@ class CallsTest(unittest.IsolatedAsyncioTestCase):
         self.assertEqual(endpoint.lost, 3)
         self.assertEqual((await soon(self.one.request("OPTIONS", self.two.uri))).status, 200)
 
+
+class PoliteTest(unittest.IsolatedAsyncioTestCase):
+    """What a user agent says and answers by itself."""
+
+    async def asyncSetUp(self) -> None:
+        self.one = await open_user_agent(
+            LIBRARY,
+            ANY_PORT,
+            allow=(*ALLOW, "INFO"),
+            supports=("replaces", "100rel"),
+            user_agent="One/1 (test)",
+        )
+        self.two = await open_user_agent(LIBRARY, ANY_PORT)
+        self.own = f"<sip:127.0.0.1:{self.one.endpoint.local[1]}>"
+
+    async def asyncTearDown(self) -> None:
+        await self.one.close()
+        await self.two.close()
+
+    async def up(
+        self, caller: UserAgent, callee: UserAgent, **words: Any
+    ) -> Tuple[OutgoingCall, IncomingCall]:
+        coming = asyncio.ensure_future(next_call(callee))
+        await asyncio.sleep(0)
+        outgoing = await caller.call(callee.uri, OFFER, **words)
+        incoming = await soon(coming)
+        incoming.answer(ANSWER)
+        await soon(asyncio.gather(outgoing.answered(), incoming.answered()))
+        return outgoing, incoming
+
+    def says(self, message: Message, name: str = "User-Agent") -> None:
+        """A message says all of the user agent `one`."""
+        said = [message.values(header) for header in ("Allow", "Supported", "Accept", name)]
+        allow = "INVITE, ACK, CANCEL, OPTIONS, BYE, PRACK, INFO"
+        wanted = [[allow], ["replaces, 100rel"], ["application/sdp"], ["One/1 (test)"]]
+        self.assertEqual(said, wanted)
+
+    async def test_invites_and_their_answers(self) -> None:
+        outgoing, incoming = await self.up(self.one, self.two)
+        self.says(incoming.invite)
+        self.assertEqual(incoming.invite.values("Contact"), [self.own])
+        answer = await outgoing.answered()
+        self.assertEqual(answer.values("Allow"), [", ".join(ALLOW)])
+        self.assertEqual((answer.values("Supported"), answer.values("Server")), ([], []))
+        reading = asyncio.ensure_future(next_request(incoming))
+        asked = asyncio.ensure_future(outgoing.request("INVITE", OFFER))
+        again = await soon(reading)
+        self.assertEqual(again.message.values("Supported"), ["replaces"])
+        again.respond(200, "OK", ANSWER)
+        await soon(asked)
+        outgoing, incoming = await self.up(self.two, self.one)
+        self.says(await outgoing.answered(), "Server")
+
+    async def test_refusals(self) -> None:
+        """They say nothing of that, but who refuses."""
+        coming = asyncio.ensure_future(next_call(self.one))
+        await asyncio.sleep(0)
+        outgoing = await self.two.call(self.one.uri, OFFER)
+        (await soon(coming)).reject()
+        end = await soon(outgoing.ended())
+        assert end.response is not None and end.response.message is not None
+        message = end.response.message
+        said = [message.values(name) for name in ("Allow", "Supported", "Accept", "Server")]
+        self.assertEqual(said, [[], [], [], ["One/1 (test)"]])
+
+    async def test_options(self) -> None:
+        for caller, callee in ((self.one, self.two), (self.two, self.one)):
+            outgoing, incoming = await self.up(caller, callee)
+            asking = self.two.request("OPTIONS", self.one.uri)
+            in_call = outgoing if callee is self.one else incoming
+            for asked in (asking, in_call.request("OPTIONS")):
+                response = await soon(asked)
+                assert response.message is not None
+                self.assertEqual(response.status, 200)
+                self.says(response.message, "Server")
+
+    async def test_options_that_are_left_unanswered(self) -> None:
+        """By a function, by a coroutine, and by who reads a call."""
+
+        def sees(request: IncomingRequest) -> None:
+            seen.append(request.method)
+
+        async def sees_too(request: IncomingRequest) -> None:
+            sees(request)
+
+        seen: List[str] = []
+        for on_request in (sees, sees_too):
+            async with await open_user_agent(LIBRARY, ANY_PORT, on_request=on_request) as agent:
+                self.assertEqual((await soon(self.one.request("OPTIONS", agent.uri))).status, 200)
+        self.assertEqual(seen, ["OPTIONS", "OPTIONS"])
+        outgoing, incoming = await self.up(self.one, self.two)
+        reading = asyncio.ensure_future(events_of(incoming))
+        self.assertEqual((await soon(outgoing.request("OPTIONS"))).status, 200)
+        outgoing.hang_up()
+        self.assertIsInstance((await soon(reading))[-2], IncomingRequest)
+
+    async def test_methods_that_nobody_serves(self) -> None:
+        outgoing, incoming = await self.up(self.two, self.one)
+        statuses = {"INFO": 480, "MESSAGE": 405, "HELLO": 501}
+        for method, status in statuses.items():
+            for asked in (outgoing.request(method), self.two.request(method, self.one.uri)):
+                response = await soon(asked)
+                assert response.message is not None
+                self.assertEqual(response.status, status)
+                allowed = response.message.value("Allow")
+                self.assertEqual("INFO" in allowed, status == 405)
+
+    async def test_contacts(self) -> None:
+        """Of requests that need one, and of their 2xx; a 2xx to others has none."""
+        outgoing, incoming = await self.up(self.one, self.two)
+        theirs = f"<sip:127.0.0.1:{self.two.endpoint.local[1]}>"
+        for method in ("SUBSCRIBE", "NOTIFY", "REFER", "UPDATE", "INFO"):
+            reading = asyncio.ensure_future(next_request(incoming))
+            asked = asyncio.ensure_future(outgoing.request(method))
+            request = await soon(reading)
+            request.respond(202, "Accepted")
+            response = await soon(asked)
+            assert response.message is not None
+            contacts = [it.values("Contact") for it in (request.message, response.message)]
+            self.assertEqual(contacts, [[], []] if method == "INFO" else [[self.own], [theirs]])
+
+    async def test_what_is_given_is_not_said_again(self) -> None:
+        given = [
+            ("allow", "INVITE"), ("k", "x, replaces"), ("ACCEPT", "text/x"), ("User-Agent", "me")
+        ]
+        outgoing, incoming = await self.up(self.one, self.two, headers=given)
+        said = [incoming.invite.values(name) for name in ("Allow", "Accept", "User-Agent")]
+        self.assertEqual(said, [["INVITE"], ["text/x"], ["me"]])
+        self.assertEqual(incoming.invite.values("Supported"), ["x, replaces, 100rel"])
+        reading = asyncio.ensure_future(next_request(incoming))
+        asked = asyncio.ensure_future(outgoing.request("REFER", headers=[("m", "<sip:x@y>")]))
+        request = await soon(reading)
+        self.assertEqual(request.message.values("Contact"), ["<sip:x@y>"])
+        request.respond(405, "Method Not Allowed", headers=[("Allow", "X")])
+        response = await soon(asked)
+        assert response.message is not None
+        self.assertEqual(response.message.values("Allow"), ["X"])
+        outgoing, incoming = await self.up(self.one, self.two, supports_100rel=True)
+        self.assertEqual(incoming.invite.values("Supported"), ["100rel, replaces"])
+
+    async def test_an_invite_without_an_offer(self) -> None:
+        """It doesn't offer 100rel: a reliable response would have an offer, and need an answer."""
+        coming = asyncio.ensure_future(next_call(self.two))
+        await asyncio.sleep(0)
+        await self.one.call(self.two.uri)
+        self.assertEqual((await soon(coming)).invite.values("Supported"), ["replaces"])
+
+    async def test_what_cannot_be_said(self) -> None:
+        wrong: Any
+        for wrong in (
+            {"allow": "INVITE"}, {"supports": ["a b"]}, {"allow": [5]}, {"user_agent": "a\r\nb"}
+        ):
+            with self.assertRaises(BadValueError):
+                await open_user_agent(LIBRARY, ANY_PORT, **wrong)
+
+
+class TransferTest(unittest.IsolatedAsyncioTestCase):
+    """Transfers: `one` calls `two`, and has it call `three`."""
+
+    async def asyncSetUp(self) -> None:
+        self.agents = [await open_user_agent(LIBRARY, ANY_PORT) for _ in range(3)]
+        self.one, self.two, self.three = self.agents
+
+    async def asyncTearDown(self) -> None:
+        for agent in self.agents:
+            await agent.close()
+
+    async def up(self, callee: UserAgent) -> Tuple[OutgoingCall, IncomingCall]:
+        coming = asyncio.ensure_future(next_call(callee))
+        await asyncio.sleep(0)
+        outgoing = await self.one.call(callee.uri, OFFER)
+        incoming = await soon(coming)
+        incoming.answer(ANSWER)
+        await soon(asyncio.gather(outgoing.answered(), incoming.answered()))
+        return outgoing, incoming
+
+    async def report(self, call: Call, text: bytes, state: str = "active;expires=60") -> int:
+        headers = [("Event", "refer"), ("Subscription-State", state)]
+        headers.append(("Content-Type", "message/sipfrag;version=2.0"))
+        return (await soon(call.request("NOTIFY", text, headers))).status
+
+    async def refer(self, call: Call) -> None:
+        """Does what a REFER in a call asks for."""
+        request = await next_request(call)
+        asked = request.refer()
+        assert asked is not None
+        request.respond(202, "Accepted")
+        headers = [("Replaces", str(asked.replaces))] if asked.replaces is not None else []
+        made = await self.two.call(asked.uri, OFFER, headers)
+        self.assertEqual(await self.report(call, b"SIP/2.0 100 Trying\r\n"), 200)
+        try:
+            answer = await soon(made.answered())
+            status = answer.start
+        except CallFailed as failed:
+            assert failed.response.message is not None
+            status = failed.response.message.start
+        text = f"SIP/2.0 {status.status} {status.reason}\r\n".encode()
+        self.assertEqual(await self.report(call, text, "terminated;reason=noresource"), 200)
+
+    async def test_to_a_uri(self) -> None:
+        for status in (200, 486):
+            call, theirs = await self.up(self.two)
+            coming = asyncio.ensure_future(next_call(self.three))
+            referring = asyncio.ensure_future(self.refer(theirs))
+            transfer = asyncio.ensure_future(call.transfer(self.three.uri))
+            incoming = await soon(coming)
+            self.assertFalse(transfer.done())
+            self.assertEqual((await soon(call.transfer(self.three.uri))).status, 491)
+            incoming.respond(status, "As asked")
+            response = await soon(transfer)
+            self.assertEqual((response.status, response.reason), (status, "As asked"))
+            await soon(referring)
+            self.assertTrue(call.is_up and theirs.is_up)
+            # A late report gets its 200, too.
+            self.assertEqual(await self.report(theirs, b"", "terminated"), 200)
+            call.hang_up()
+
+    async def test_to_a_call(self) -> None:
+        """The third takes the new call in place of the first's call to it."""
+        call, theirs = await self.up(self.two)
+        other, replaced = await self.up(self.three)
+        coming = asyncio.ensure_future(next_call(self.three))
+        referring = asyncio.ensure_future(self.refer(theirs))
+        transfer = asyncio.ensure_future(call.transfer(other))
+        incoming = await soon(coming)
+        value = incoming.invite.value("Replaces")
+        self.assertEqual(
+            value, f"{other.call_id};to-tag={other.remote_tag};from-tag={other.local_tag}"
+        )
+        self.assertIs(self.three.find_call(value), replaced)
+        self.assertIs(self.three.find_call(replaces_of(value) or ""), replaced)
+        tags = replaced.local_tag, replaced.remote_tag
+        self.assertEqual(tags, (other.remote_tag, other.local_tag))
+        for wrong in ("", value.replace("to-tag=", "to-tag=x"), value.partition(";from")[0]):
+            self.assertIsNone(self.three.find_call(wrong))
+        incoming.answer(ANSWER)
+        replaced.hang_up()
+        self.assertEqual((await soon(transfer)).status, 200)
+        await soon(asyncio.gather(referring, other.ended()))
+        self.assertIsNone(self.three.find_call(value))
+
+    async def test_the_peer_does_not_take_it(self) -> None:
+        call, _ = await self.up(self.two)
+        self.assertEqual((await soon(call.transfer(self.three.uri))).status, 405)
+        self.assertEqual((await soon(call.transfer(self.three.uri))).status, 405)
+        for wrong in ("three", "<sip:three@192.0.2.3>", ""):
+            with self.assertRaises(BadValueError):
+                await soon(call.transfer(wrong))
+        call.hang_up()
+        self.assertEqual((await soon(call.transfer(self.three.uri))).status, 481)
+        with self.assertRaises(BadValueError):
+            await soon(call.transfer(call))
+
+    async def test_reports_that_end_too_soon(self) -> None:
+        """Without a final status, by the end of the call, and none at all (RFC 4488)."""
+        for ending, status in (("terminated", 180), ("bye", 481), ("none", 202)):
+            call, theirs = await self.up(self.two)
+            reading = asyncio.ensure_future(next_request(theirs))
+            transfer = asyncio.ensure_future(call.transfer(self.three.uri))
+            request = await soon(reading)
+            headers = [("Refer-Sub", "false")] if ending == "none" else []
+            request.respond(202, "Accepted", headers=headers)
+            if ending == "terminated":
+                await self.report(theirs, b"SIP/2.0 180 Ringing", "terminated")
+            elif ending == "bye":
+                await self.report(theirs, b"SIP/2.0 180 Ringing")
+                theirs.hang_up()
+            self.assertEqual((await soon(transfer)).status, status)
+            call.hang_up()
+
+    async def test_reports_of_a_transfer_that_was_given_up(self) -> None:
+        """They aren't taken for those of the next one."""
+        call, theirs = await self.up(self.two)
+        numbers: List[str] = []
+
+        async def take() -> None:
+            request = await next_request(theirs)
+            numbers.append(request.message.value("CSeq").split()[0])
+            request.respond(202, "Accepted")
+
+        for _ in range(2):
+            taking = asyncio.ensure_future(take())
+            transfer = asyncio.ensure_future(call.transfer(self.three.uri))
+            await soon(taking)
+            await soon(until(lambda: not self.one._responses))
+            if len(numbers) == 1:
+                transfer.cancel()
+        for number, status in zip(numbers, (408, 200)):
+            event = [("Event", f"refer;id={number}"), ("Subscription-State", "terminated")]
+            text = f"SIP/2.0 {status} Now".encode()
+            self.assertEqual((await soon(theirs.request("NOTIFY", text, event))).status, 200)
+        self.assertEqual((await soon(transfer)).status, 200)
+
+    async def test_notifications_of_others(self) -> None:
+        """They are the user's; so are those of a refer that wasn't asked for."""
+        call, theirs = await self.up(self.two)
+        reading = asyncio.ensure_future(next_request(call))
+        asked = asyncio.ensure_future(self.report(theirs, b"SIP/2.0 200 OK"))
+        (await soon(reading)).respond(299, "Fine")
+        self.assertEqual(await soon(asked), 299)
+
+    def test_the_headers(self) -> None:
+        replaces = Replaces("a@b", "t", "f")
+        self.assertEqual(refer_to("sip:b@192.0.2.9"), "<sip:b@192.0.2.9>")
+        value = refer_to("sip:b@192.0.2.9;x=y?Subject=z", replaces)
+        self.assertEqual(
+            value, "<sip:b@192.0.2.9;x=y?Replaces=a%40b%3Bto-tag%3Dt%3Bfrom-tag%3Df>"
+        )
+
+        def read(*values: str) -> Any:
+            headers = tuple(("r", value) for value in values)
+            return refer_of(Message(None, headers, b""))  # type: ignore[arg-type]
+
+        self.assertEqual(read(value), Refer("sip:b@192.0.2.9;x=y", replaces))
+        self.assertEqual(read('"A, <B>" <sip:a?b@h?c=d&e>'), Refer("sip:a?b@h", None))
+        unescaped = "<sip:b@h?Replaces=a@b;to-tag=t;from-tag=f>"
+        self.assertEqual(read(unescaped), Refer("sip:b@h", replaces))
+        self.assertEqual(read("sip:h"), Refer("sip:h", None))
+        for wrong in ((), ("sip:h", "sip:h"), ("h",), ("<sip:h?Replaces=a%3Bto-tag%3Dt>",)):
+            self.assertIsNone(read(*wrong))
+        early = replaces_of("a ; from-tag=f;x;EARLY-ONLY; to-tag = t")
+        self.assertEqual(early, Replaces("a", "t", "f", True))
+        self.assertEqual(str(early), "a;to-tag=t;from-tag=f;early-only")
+
+    def test_reports(self) -> None:
+        def read(state: str, body: bytes) -> Tuple[int, str, bool]:
+            headers = (("Subscription-State", state),)
+            return report_of(Message(None, headers, body))  # type: ignore[arg-type]
+
+        self.assertEqual(read("active", b"SIP/2.0 180 Ringing\r\n"), (180, "Ringing", False))
+        self.assertEqual(read("active", b"\r\nSIP/2.0 603 No\r\nX: y\r\n"), (603, "No", True))
+        self.assertEqual(read("Terminated;reason=x", b"SIP/2.0 100"), (100, "", True))
+        self.assertEqual(read("active;expires=60", b"hello"), (0, "", False))
+
+
+class SessionTest(unittest.IsolatedAsyncioTestCase):
+    """The session timer of a call, by the times of RFC 4028."""
+
+    def session(self, *times: int) -> Session:
+        return Session(Timer(*times), lambda: None, lambda: None)
+
+    def message(self, **headers: Any) -> Message:
+        pairs = [(name.replace("_", "-"), str(value)) for name, value in headers.items()]
+        return Message(None, tuple(pairs), b"")  # type: ignore[arg-type]
+
+    async def test_when_something_is_due(self) -> None:
+        """The refresh at half of the time; the end at its end, or before where the peer refreshes,
+        by a third of the time, at most 32 s."""
+        wanted = {
+            "1800;refresher=uac": [900, 1800],
+            "1800": [900, 1800],
+            "1800 ; x=y; Refresher = UAS": [1768],
+            "90;refresher=uas": [60],
+            "3;refresher=uac": [45, 90],
+            "x": [],
+        }
+        for value, dues in wanted.items():
+            session, message = self.session(), self.message(Session_Expires=value)
+            now = asyncio.get_running_loop().time()
+            session.take_answer(message)
+            told = sorted(round(handle.when() - now) for handle in session._handles)
+            self.assertEqual(told, dues)
+            session.stop()
+            self.assertTrue(all(handle.cancelled() for handle in session._handles))
+
+    async def test_an_answer_without_a_time(self) -> None:
+        session = self.session()
+        session.take_answer(self.message(x="600"))
+        self.assertEqual((session.interval_s, session.number), (600, 1))
+        session.take_answer(self.message())
+        self.assertEqual((session.interval_s, session._handles), (0, []))
+
+    async def test_times_that_are_too_short(self) -> None:
+        session = self.session(100)
+        self.assertFalse(session.takes_too_small(422, None))
+        self.assertFalse(session.takes_too_small(486, self.message(Min_SE=120)))
+        self.assertFalse(session.takes_too_small(422, self.message(Min_SE=100)))
+        self.assertEqual(session.asking()[1:], [("Session-Expires", "100"), ("Min-SE", "100")])
+        self.assertTrue(session.takes_too_small(422, self.message(Min_SE=120)))
+        self.assertEqual(session.asking()[1:], [("Session-Expires", "120"), ("Min-SE", "120")])
+        self.assertTrue(session.takes_too_small(422, self.message(Min_SE=130)))
+        self.assertFalse(session.takes_too_small(422, self.message(Min_SE=140)))
+
+    async def test_what_is_refused_and_answered(self) -> None:
+        session = self.session(200, 150)
+        short = self.message(Session_Expires=149, k="a, Timer")
+        self.assertEqual(session.refusal(short), [("Min-SE", "150")])
+        self.assertEqual(session.refusal(self.message(Session_Expires=149)), [])
+        self.assertEqual(session.refusal(self.message(Session_Expires=150, k="timer")), [])
+        self.assertEqual(session.refusal(self.message(k="timer")), [])
+        long = self.message(Session_Expires=900, Min_SE=300, Supported="timer")
+        self.assertEqual(session.answer(long), [("Session-Expires", "300;refresher=uas")])
+        session.stop()
+
+
+class TimerTest(unittest.IsolatedAsyncioTestCase):
+    """Session timers, whose times may be shorter than those of RFC 4028."""
+
+    async def asyncSetUp(self) -> None:
+        patched = mock.patch("sip_ua_timers.LEAST_S", 1)
+        patched.start()
+        self.addCleanup(patched.stop)
+        self.agents: List[UserAgent] = []
+
+    async def asyncTearDown(self) -> None:
+        for agent in self.agents:
+            await agent.close(0.5)
+
+    async def agent(self, expires_s: int = 0, min_se_s: int = 1) -> UserAgent:
+        timer = Timer(expires_s, min_se_s) if expires_s else None
+        agent = await open_user_agent(LIBRARY, ANY_PORT, session_timer=timer)
+        self.agents.append(agent)
+        return agent
+
+    async def up(
+        self, one: UserAgent, two: UserAgent, **words: Any
+    ) -> Tuple[OutgoingCall, IncomingCall]:
+        coming = asyncio.ensure_future(next_call(two))
+        await asyncio.sleep(0)
+        outgoing = await one.call(two.uri, OFFER, **words)
+        incoming = await soon(coming)
+        incoming.answer(ANSWER)
+        await soon(asyncio.gather(outgoing.answered(), incoming.answered()))
+        return outgoing, incoming
+
+    async def test_it_is_refreshed(self) -> None:
+        """The callee refreshes, by its last SDP, and nobody is asked."""
+        outgoing, incoming = await self.up(await self.agent(3), await self.agent(2))
+        answer = await outgoing.answered()
+        self.assertEqual(incoming.invite.values("Session-Expires"), ["3"])
+        self.assertEqual(incoming.invite.values("Supported"), ["timer"])
+        self.assertEqual(answer.values("Session-Expires"), ["2;refresher=uas"])
+        self.assertEqual((answer.values("Supported"), answer.values("Require")), (["timer"], []))
+        told = asyncio.gather(events_of(outgoing), events_of(incoming))
+        await asyncio.sleep(3.3)
+        self.assertTrue(outgoing.is_up and incoming.is_up)
+        outgoing.hang_up()
+        ours, theirs = await soon(told)
+        self.assertEqual([type(event) for event in ours], [Answered, Ended])
+        self.assertEqual([type(event) for event in theirs], [Answered, Ended])
+        for session in (outgoing._session, incoming._session):
+            self.assertGreater(session.number if session is not None else 0, 2)
+        self.assertEqual((outgoing._said[0], outgoing._heard), (OFFER, ANSWER))
+        self.assertEqual((incoming._said[0], incoming._heard), (ANSWER, OFFER))
+
+    async def test_a_reinvite_is_a_refresh(self) -> None:
+        """It goes to the user, and names who refreshes."""
+        outgoing, incoming = await self.up(await self.agent(4), await self.agent(4))
+        for asking, asked, refresher in (
+            (outgoing, incoming, "uas"),
+            (incoming, outgoing, "uac"),
+        ):
+            reading = asyncio.ensure_future(next_request(asked))
+            again = asyncio.ensure_future(asking.request("INVITE", b"v=0\r\ns=hold\r\n"))
+            request = await soon(reading)
+            expires = f"4;refresher={refresher}"
+            self.assertEqual(request.message.values("Session-Expires"), [expires])
+            request.respond(200, "OK", ANSWER)
+            response = await soon(again)
+            assert response.message is not None
+            self.assertEqual(response.message.values("Session-Expires"), [expires])
+
+    async def test_a_time_that_is_too_short(self) -> None:
+        """A 422 tells the shortest one, which is then asked for."""
+        outgoing, incoming = await self.up(await self.agent(2), await self.agent(9, 5))
+        self.assertEqual(incoming.invite.values("Session-Expires"), ["5"])
+        self.assertEqual(incoming.invite.values("Min-SE"), ["5"])
+        answer = await outgoing.answered()
+        self.assertEqual(answer.values("Session-Expires"), ["5;refresher=uas"])
+        self.assertEqual(incoming.call_id, outgoing.call_id)
+
+    async def test_a_peer_without_timers(self) -> None:
+        two = await self.agent()
+        for one, timer in ((await self.agent(), Timer(2, 1)), (await self.agent(2), None)):
+            outgoing, incoming = await self.up(one, two, session_timer=timer)
+            self.assertEqual(incoming.invite.values("Session-Expires"), ["2"])
+            self.assertEqual(incoming.invite.values("Supported"), ["timer"])
+            self.assertEqual((await outgoing.answered()).values("Session-Expires"), [])
+        await asyncio.sleep(2.2)
+        self.assertTrue(outgoing.is_up and incoming.is_up)
+        outgoing, incoming = await self.up(two, one)
+        self.assertEqual(incoming.invite.values("Session-Expires"), [])
+        self.assertEqual((await outgoing.answered()).values("Session-Expires"), [])
+
+    async def test_a_user_with_timers_of_his_own(self) -> None:
+        headers = [("Session-Expires", "1800"), ("Supported", "timer")]
+        outgoing, incoming = await self.up(
+            await self.agent(2), await self.agent(), headers=headers
+        )
+        self.assertEqual(incoming.invite.values("Session-Expires"), ["1800"])
+        self.assertEqual(incoming.invite.values("Supported"), ["timer"])
+        self.assertIsNone(outgoing._session)
+
+    async def scripted(self, session_expires: str) -> Tuple[Peer, OutgoingCall]:
+        """A call to a peer that answers with this time, and then nothing but BYE."""
+
+        def answer(message: str) -> List[str]:
+            if message.startswith("INVITE") and len(peer.requests) == 1:
+                more = f"{peer.contact()}Session-Expires: {session_expires}\r\n"
+                return [response(message, "200 OK", "t", more, ANSWER.decode())]
+            return [response(message, "200 OK")] if message.startswith("BYE") else []
+
+        peer = await open_peer(Peer(answer))
+        self.addCleanup(peer.close)
+        agent = await self.agent(9)
+        call = await agent.call(f"sip:b@127.0.0.1:{peer.port}", OFFER)
+        await soon(call.answered())
+        return peer, call
+
+    async def test_a_peer_that_does_not_refresh(self) -> None:
+        """It is hung up before the session is over, also if it doesn't answer our refresh."""
+        begun = asyncio.get_running_loop().time()
+        for refresher, methods in (
+            ("uas", ["INVITE", "ACK", "BYE"]), ("uac", ["INVITE", "ACK", "INVITE", "BYE"])
+        ):
+            peer, call = await self.scripted(f"1;refresher={refresher}")
+            end = await soon(call.ended())
+            self.assertEqual(end, Ended(reason=Reason.PEER_LOST))
+            await soon(until(lambda: "BYE" in peer.methods))
+            self.assertEqual([it for it in dict.fromkeys(peer.methods)], [*dict.fromkeys(methods)])
+            self.assertEqual(peer.methods.count("INVITE") > 1, refresher == "uac")
+        self.assertLess(asyncio.get_running_loop().time() - begun, 2 * SOON_S)
+
+    async def test_a_refresh_that_crosses(self) -> None:
+        """After a 491 it goes again; then the session goes on."""
+
+        def answer(message: str) -> List[str]:
+            more = f"{peer.contact()}Session-Expires: 9;refresher=uac\r\n"
+            if message.startswith("INVITE"):
+                count = peer.methods.count("INVITE")
+                status = "491 Request Pending" if count == 2 else "200 OK"
+                return [response(message, status, "t", more, ANSWER.decode())]
+            return [response(message, "200 OK")] if message.startswith("BYE") else []
+
+        peer = await open_peer(Peer(answer))
+        self.addCleanup(peer.close)
+        agent = await self.agent(9)
+        with mock.patch("sip_ua_calls.GLARE_S", (0.1, 0.1)):
+            call = await agent.call(f"sip:b@127.0.0.1:{peer.port}", OFFER)
+            await soon(call.answered())
+            call._refresh()
+            await asyncio.wait_for(until(lambda: peer.methods.count("ACK") == 3), SOON_S)
+            # One of the user takes the place of a refresh.
+            asking = asyncio.ensure_future(call.request("INVITE", OFFER))
+            await asyncio.sleep(0)
+            call._refresh()
+            await soon(asking)
+            await asyncio.sleep(0.3)
+        self.assertEqual(peer.methods, ["INVITE", "ACK"] * 4)
+        asked = [header(it, "Session-Expires") for it in peer.requests if it.startswith("INVITE")]
+        self.assertEqual(asked, ["9"] + 3 * ["9;refresher=uac"])
+        self.assertTrue(call.is_up)
+
+    async def test_a_refresh_that_is_too_short(self) -> None:
+        """The peer asks for longer in a call that is up."""
+
+        def answer(message: str) -> List[str]:
+            if message.startswith("INVITE") and len(peer.requests) == 3:
+                return [response(message, "422 Too Small", "t", "Min-SE: 20\r\n")]
+            expires = header(message, "Session-Expires").partition(";")[0]
+            more = f"{peer.contact()}Session-Expires: {expires};refresher=uac\r\n"
+            is_ack = message.startswith("ACK")
+            return [] if is_ack else [response(message, "200 OK", "t", more, ANSWER.decode())]
+
+        peer = await open_peer(Peer(answer))
+        self.addCleanup(peer.close)
+        agent = await self.agent(9)
+        call = await agent.call(f"sip:b@127.0.0.1:{peer.port}", OFFER)
+        await soon(call.answered())
+        self.assertEqual((await soon(call.request("INVITE", OFFER))).status, 200)
+        invites = [it for it in peer.requests if it.startswith("INVITE")]
+        told = [(header(it, "Session-Expires"), header(it, "Min-SE")) for it in invites]
+        wanted = [("9", ""), ("9;refresher=uac", ""), ("20;refresher=uac", "20")]
+        self.assertEqual(told, wanted)
+
+    async def test_a_reinvite_that_is_too_short(self) -> None:
+        outgoing, incoming = await self.up(await self.agent(), await self.agent(9, 5))
+        headers = [("Session-Expires", "4"), ("Supported", "timer")]
+        response = await soon(outgoing.request("INVITE", OFFER, headers))
+        assert response.message is not None
+        self.assertEqual((response.status, response.message.value("Min-SE")), (422, "5"))
+        self.assertTrue(incoming.is_up)
+
+    async def test_the_answer_in_the_ack(self) -> None:
+        """Each side keeps what it said and heard last, for refreshes."""
+        one, two = await self.agent(9), await self.agent(9)
+        coming = asyncio.ensure_future(next_call(two))
+        await asyncio.sleep(0)
+        outgoing = await one.call(two.uri)
+        incoming = await soon(coming)
+        incoming.answer(OFFER)
+        await soon(outgoing.answered())
+        outgoing.acknowledge(ANSWER)
+        await soon(incoming.answered())
+        self.assertEqual((outgoing._said[0], outgoing._heard), (ANSWER, OFFER))
+        self.assertEqual((incoming._said[0], incoming._heard), (OFFER, ANSWER))
+        reading = asyncio.ensure_future(next_request(outgoing))
+        asked = asyncio.ensure_future(incoming.request("INVITE"))
+        again = await soon(reading)
+        again.respond(200, "OK", b"v=0\r\n", [("c", "application/sdp")])
+        await soon(asked)
+        incoming.acknowledge(b"v=1\r\n")
+        await soon(again.acknowledged())
+        self.assertEqual((incoming._said[0], incoming._heard), (b"v=1\r\n", b"v=0\r\n"))
+        self.assertEqual(outgoing._said, (b"v=0\r\n", [("c", "application/sdp")]))
+        self.assertEqual(outgoing._heard, b"v=1\r\n")
+        outgoing.hang_up()
+        await soon(asyncio.gather(outgoing.ended(), incoming.ended()))
+        sessions = outgoing._session, incoming._session
+        self.assertEqual([it and it.interval_s for it in sessions], [0, 0])
+
+    async def test_what_a_caller_asks_for(self) -> None:
+        """Who refreshes, and how long, by RFC 4028, section 9."""
+        wanted = {
+            ("timer", "60;refresher=uac"): "60;refresher=uac",
+            ("timer", "60"): "60;refresher=uas",
+            ("timer", "600;refresher=uas"): "90;refresher=uas",
+            ("timer", ""): "90;refresher=uas",
+            ("x", "60;refresher=uac"): "60;refresher=uas",
+            ("x", ""): "",
+        }
+        for number, ((supported, expires), answered) in enumerate(wanted.items()):
+            more = f"Supported: {supported}\r\n"
+            more += f"Session-Expires: {expires}\r\n" if expires else ""
+            ok = await self.answer_to(more, number)
+            self.assertEqual(header(ok, "Session-Expires"), answered)
+            self.assertNotIn("Require", ok)
+
+    async def answer_to(self, headers: str, number: int) -> str:
+        """The 200 to an INVITE of a scripted peer with these headers."""
+        loop = asyncio.get_running_loop()
+        agent = await self.agent(90)
+        coming = asyncio.ensure_future(next_call(agent))
+        await asyncio.sleep(0)
+        with bound("127.0.0.1") as peer:
+            port = peer.getsockname()[1]
+            invite = OPTIONS.replace("OPTIONS", "INVITE").replace("PORT", str(port))
+            text = invite.replace("CSeq", f"Contact: <sip:127.0.0.1:{port}>\r\n{headers}CSeq")
+            peer.sendto(text.replace("bKo1", f"bKt{number}").encode(), agent.endpoint.local)
+            (await soon(coming)).answer(ANSWER)
+            answer = ""
+            while " 200 " not in answer[:12]:
+                answer = (await soon(loop.sock_recv(peer, 4096))).decode()
+            return answer
+
+    def test_times_that_cannot_be(self) -> None:
+        for expires_s, min_se_s in ((0, 1), (90, 0), (4, 5)):
+            with self.assertRaises(BadValueError):
+                Timer(expires_s, min_se_s)
 
 
 class LeftTest(unittest.IsolatedAsyncioTestCase):
@@ -875,8 +1647,31 @@ class ScriptedTest(unittest.IsolatedAsyncioTestCase):
         call.hang_up()
         with self.assertRaises(CallFailed):
             await soon(call.answered())
-        await soon(call.ended())
+        self.assertEqual((await soon(call.ended())).reason, Reason.CANCELLED)
         await soon(until(lambda: peer.methods == ["INVITE", "CANCEL", "ACK", "BYE"]))
+
+    async def test_a_peer_that_is_silent(self) -> None:
+        _, uri = await self.peer(lambda _: [])
+        call = await self.agent.call(uri, OFFER)
+        await asyncio.sleep(0.1)
+        # Time passes.
+        self.agent.endpoint._start -= NO_ACK_S
+        self.agent.endpoint._run_soon()
+        end = await soon(call.ended())
+        self.assertEqual((end.response and end.response.status, end.reason), (408, Reason.TIMEOUT))
+
+    async def test_a_peer_that_forgets_a_call(self) -> None:
+        def answer(message: str) -> List[str]:
+            if message.startswith("INVITE"):
+                return [response(message, "200 OK", "t", peer.contact())]
+            return [response(message, "481 Gone")] if message.startswith("INFO") else []
+
+        peer, uri = await self.peer(answer)
+        call = await self.agent.call(uri, OFFER)
+        await soon(call.answered())
+        self.assertEqual((await soon(call.request("INFO"))).status, 481)
+        self.assertEqual(await soon(call.ended()), Ended(reason=Reason.PEER_LOST))
+        self.assertEqual(peer.methods, ["INVITE", "ACK", "INFO"])
 
     async def test_a_caller_never_acknowledges(self) -> None:
         def answer(message: str) -> List[str]:
@@ -898,8 +1693,9 @@ class ScriptedTest(unittest.IsolatedAsyncioTestCase):
         with self.assertRaises(CallFailed) as failed:
             await soon(call.answered())
         self.assertEqual(failed.exception.response, NO_ACK)
-        self.assertEqual(await soon(call.ended()), Ended(NO_ACK))
-        self.assertEqual(await soon(events_of(call)), [Ended(NO_ACK)])
+        end = Ended(NO_ACK, reason=Reason.NO_ACK)
+        self.assertEqual(await soon(call.ended()), end)
+        self.assertEqual(await soon(events_of(call)), [end])
         await soon(until(lambda: peer.methods == ["BYE"]))
 
     async def test_a_call_is_challenged(self) -> None:

@@ -1,20 +1,21 @@
 """A softphone on a terminal, without sound: it registers with a password, calls, shows who calls,
-answers, holds, sends and shows tones (DTMF by INFO), and hangs up.
+answers, holds, sends and shows tones (DTMF by INFO), hands a call over, and hangs up.
 
     PYTHONPATH=bindings python3 examples/phone.py LIBRARY LOCAL NAME@DOMAIN [REGISTRAR PASSWORD]
 
 LOCAL and REGISTRAR are an address and a port, as in 192.0.2.1:5060. Without a registrar, a call
 goes directly to the address in its URI. A line of the terminal is a command:
 
-    call URI    answer    busy    hold    resume    tone DIGIT    hangup    quit"""
+    call URI    answer    busy    hold    resume    tone DIGIT    transfer URI    hangup    quit"""
 
 import asyncio
 import re
 import sys
 from typing import Any, Coroutine, Optional, Set
 
-from sip_ua import Error
+from sip_ua import BadValueError, Error
 from sip_ua_calls import (
+    ALLOW,
     Answered,
     Call,
     Event,
@@ -95,6 +96,10 @@ class Phone:
         if self.call:
             self.spawn(self.send_tone(self.call, digit))
 
+    async def do_transfer(self, uri: str) -> None:
+        if self.call:
+            self.spawn(self.transfer(self.call, uri))
+
     async def do_hangup(self, _: str) -> None:
         if self.call:
             self.call.hang_up()
@@ -139,8 +144,11 @@ class Phone:
             say("held by the peer" if is_held else "no longer held")
             request.respond(200, "OK", self.answer_to(offer))
             return
+        if request.method != "INFO":
+            request.refuse()
+            return
         tone = re.search(rb"Signal=\s*(\S)", request.message.body)
-        if request.method == "INFO" and tone:
+        if tone:
             say("tone", tone[1].decode())
         request.respond(200, "OK")
 
@@ -155,6 +163,17 @@ class Phone:
         response = await call.request("INFO", body, [TONE])
         if not response.is_success:
             say("no tone:", response.status)
+
+    async def transfer(self, call: Call, uri: str) -> None:
+        """Has the peer call a URI, and hangs up if that is answered."""
+        try:
+            response = await call.transfer(uri)
+        except BadValueError as error:
+            say("not transferred:", error)
+            return
+        say("transferred" if response.is_success else f"not transferred: {response.status}")
+        if response.is_success:
+            call.hang_up()
 
     def sdp(self, direction: str) -> bytes:
         """Audio to the port `discard`."""
@@ -187,7 +206,9 @@ async def main(
     at = await address_of(f"sip:{registrar}") if registrar else None
     name = user.partition("@")[0]
     own = await address_of(f"sip:{local}")
-    agent = await open_user_agent(library, own, f"sip:{user}", at, name, password)
+    agent = await open_user_agent(
+        library, own, f"sip:{user}", at, name, password, allow=(*ALLOW, "INFO")
+    )
     lines = asyncio.StreamReader()
     loop = asyncio.get_running_loop()
     await loop.connect_read_pipe(lambda: asyncio.StreamReaderProtocol(lines), sys.stdin)

@@ -1,15 +1,17 @@
 /* A call over UDP: `call IP PORT TO-IP TO-PORT URI SECONDS` calls the URI at an address with an
  * offer, prints what happens, and hangs up SECONDS after the answer. If nobody answers within 20 s,
- * it cancels the call. It takes reliable provisional responses. If several branches of a fork
- * answer, it keeps the first. Its status is 0 if the call was answered and has ended, otherwise 1.
+ * it cancels the call. On Linux it ends at once where the port is closed. It takes reliable
+ * provisional responses. If several branches of a fork answer, it keeps the first. Its status is 0
+ * if the call was answered and has ended, otherwise 1.
  *
  * Commands are functions with the fields of a request, and notices are structs, so the program
- * parses nothing. It also shows a header of its own, the id of a command, and how to read the
- * datagram of a notice. */
-#define _POSIX_C_SOURCE 200809L
+ * parses nothing but what ICMP quotes. It also shows a header of its own, the id of a command, and
+ * how to read the datagram of a notice. */
+#define _DEFAULT_SOURCE
 #include "sip_ua.h"
 
 #include <arpa/inet.h>
+#include <errno.h>
 #include <poll.h>
 #include <stdio.h>
 #include <stdlib.h>
@@ -90,8 +92,39 @@ static void fail(const sip_ua_typed_output *output)
     has_events = true;
 }
 
+/* Takes what ICMP says of ports that are closed: the request whose method and branch it quotes
+ * fails. Without Linux, and where a branch is no longer held, nothing happens. */
+static void take_refusals(void)
+{
+#ifdef __linux__
+    static char quote[2048];
+    union { struct cmsghdr first; uint8_t room[512]; } told;
+    char method[32], branch[128], line[192];
+    for (;;) {
+        struct iovec room = { quote, sizeof quote - 1 };
+        struct msghdr message = { .msg_iov = &room, .msg_iovlen = 1, .msg_control = &told,
+                                  .msg_controllen = sizeof told };
+        ssize_t len = recvmsg(udp, &message, MSG_ERRQUEUE | MSG_DONTWAIT);
+        uint32_t error = 0;
+        if (len < 0)
+            return;
+        quote[len] = '\0';
+        if (CMSG_FIRSTHDR(&message) != NULL)
+            memcpy(&error, CMSG_DATA(CMSG_FIRSTHDR(&message)), sizeof error);
+        if (error != ECONNREFUSED
+            || sscanf(quote, "%31s %*s SIP/2.0 Via: %*[^\r;];rport;branch=%127[^\r;]", method,
+                      branch) != 2)
+            continue;
+        len = snprintf(line, sizeof line, "failed client %s %s", branch, method);
+        has_events |= sip_ua_event_line(&agent, line, (size_t)len) == SIP_UA_OK;
+    }
+#endif
+}
+
 static void send_output(const sip_ua_typed_output *output)
 {
+    /* Otherwise this send fails by the refusal of an earlier one. */
+    take_refusals();
     struct sockaddr_in to = { .sin_family = AF_INET, .sin_port = htons(output->to.port) };
     memcpy(&to.sin_addr, output->to.ip, 4);
     if (sendto(udp, texts, output->body_len, 0, (struct sockaddr *)&to, sizeof to) < 0)
@@ -304,6 +337,9 @@ int main(int count, char **words)
     memcpy(configuration.local.ip, &local.sin_addr, 4);
     seconds = strtoull(words[6], NULL, 10);
     udp = socket(AF_INET, SOCK_DGRAM, 0);
+#ifdef __linux__
+    setsockopt(udp, IPPROTO_IP, IP_RECVERR, &(int){ 1 }, sizeof(int));
+#endif
     if (udp < 0 || bind(udp, (struct sockaddr *)&local, sizeof local) != 0
         || getrandom(configuration.seed, sizeof configuration.seed, 0) < 0) {
         perror("call");
@@ -318,6 +354,7 @@ int main(int count, char **words)
     while (!is_over || has_events) {
         struct pollfd waiting = { .fd = udp, .events = POLLIN };
         poll(&waiting, 1, has_events ? 0 : patience());
+        take_refusals();
         receive();
         if (now() >= until)
             end_call();
