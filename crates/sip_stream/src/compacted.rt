@@ -1,8 +1,9 @@
 //! Compacts a journal, and checks what came of it.
 
-ghost use Rattle.std.specs.Prelude.{◌≡◌, ◌<◌, ◌≤◌, IfOk, IfSome};
+ghost use Rattle.std.specs.Prelude.{◌≡◌, ◌<◌, ◌≤◌, ℕ, IfNone, IfOk, IfSome, List};
 ghost use Rattle.sip_files.specs.declared.version.FileKind.TheVariants.{Session};
 ghost use Rattle.sip_round.specs.AgentState.{shard_count};
+ghost use Rattle.sip_stream.specs.Journals.{LeaveOthers};
 ghost use Rattle.sip_stream.specs.Streams.{StandsForFile};
 
 use crate::compaction::write_shorter;
@@ -51,6 +52,10 @@ pub fn compact<T: Threads + Sync, K: CountedRead, L: CountedRead, M: CountedRead
         StandsForFile C.shard_of Session compacted.agent compacted.text.items)) }
     ensures count { IfOk result (λ given. IfSome given
         (λ compacted. shard_count compacted.agent ≡ shards)) }
+
+    // There is none only if the shorter journal leaves something else.
+    ensures none { IfOk result (λ given. IfNone given (IfSome (M.remaining once_more.old)
+        (λ long. (short : List ℕ) × LeaveOthers long short))) }
 {
     let mut text = Vec::new(alloc);
     write_shorter(alloc, journal, again, &mut text)?;

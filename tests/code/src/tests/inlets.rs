@@ -27,6 +27,10 @@ struct Broken {
 }
 
 impl Inlet for Broken {
+    ghost use Rattle.std.specs.Prelude.{None};
+
+    ghost given = { λ _. None };
+
     fn receive(&mut self, _buffer: &mut [u8]) -> Received {
         if self.failures_left > 0 {
             self.failures_left -= 1;
@@ -63,7 +67,7 @@ fn heard_after(
     quiet_left: u32,
 ) -> Result<usize, Fail> {
     let (mut desk, line) = one_line(alloc)?;
-    let inlet = Broken {
+    let mut inlet = Broken {
         failures,
         failures_left: failures,
         quiet_left,
@@ -72,7 +76,7 @@ fn heard_after(
     let buffer = vec![in alloc; 0u8; 8]?;
     let flags = Arc::new(alloc, Flags::new())?;
     let lines = Vec::from_array(alloc, [line])?;
-    let heard = hear(alloc, inlet, buffer, lines, flags.clone()?);
+    let heard = hear(alloc, &mut inlet, buffer, lines, flags.clone()?);
     assert!(rt; heard.fault == Some(UaFault::Socket));
     assert!(rt; flags.ended.load(Ordering::SeqCst));
     assert!(rt;
