@@ -17,7 +17,7 @@ module _ (configs : Side → Config) where
   carried_front start (turn ∷ front) more carried =
       (carried.0, carried_front (start ++ turn ∷ []) front more carried.1)
 
-  front_carried : (front more : List Turn) → Carried configs (front ++ more)
+  pub front_carried : (front more : List Turn) → Carried configs (front ++ more)
       → Carried configs front
   front_carried front more carried = carried_front [] front more carried
 

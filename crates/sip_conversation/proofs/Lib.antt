@@ -83,3 +83,11 @@ pub mod SaidOrigins
 pub mod AcksFollow
 pub mod AcksSaid
 pub mod ServedReplies
+pub mod OftenSent
+pub mod RoundInputs
+pub mod CopiesSent
+pub mod UpTo
+pub mod ComesAt
+pub mod WasAnswered
+pub mod HandedUp
+pub mod RequestsArrive

@@ -12,4 +12,6 @@ pub mod Requests
 pub mod AckedResponses
 pub mod Acks
 pub mod ToldPracks
+pub mod Copies
+pub mod Delivery
 pub mod Steps

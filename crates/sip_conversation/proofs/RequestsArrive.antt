@@ -1,0 +1,299 @@
+-- A request that is under way arrives.
+use Rattle.std.proofs.Common.{◌≡◌, ⊎_elim, ℕ, suc, ◌+◌, ◌<◌, ◌≤◌, Bool, true, false, List, [], ◌∷◌, ◌++◌, length, refl, sym, ap, ◌∙◌, subst, arith, codes, append_assoc}
+use Rattle.std.specs.Prelude.{Contains, Option, None, Some, count_by}
+use Rattle.std.specs.List.{AllByRecursion, list_any}
+use Rattle.std.proofs.lemmas.Bool.{false≢true, leb-true}
+use Rattle.std.proofs.lemmas.List.Elements.{Contains-append_cases, Contains-append_left, Contains-append_right, Contains-push}
+use Rattle.sip_message.specs.declared.addr.Addr.{Addr}
+use Rattle.sip_message.specs.declared.id.Id.{Id}
+use Rattle.sip_message.specs.declared.key.Key.{Key}
+use Rattle.sip_message.specs.declared.key.Key.TheVariants as key
+use Rattle.sip_message.specs.declared.message.Message.{Message}
+use Rattle.sip_message.specs.Message.{is_request_message}
+use Rattle.sip_message.specs.MessageKey.{key_of_message}
+use Rattle.sip_message.specs.Rules.{IsMessage}
+use Rattle.sip_message.specs.Source.{answer_address}
+use Rattle.sip_message.specs.Written.{written}
+use Rattle.keyed_machine.specs.Machine.{Timed, given_at, outputs_from, state_from, tick_at}
+use Rattle.keyed_machine.proofs.Ordered.{by_bool}
+use Rattle.sip_transactions.specs.declared.input.Command.TheVariants as order
+use Rattle.sip_transactions.specs.declared.input.Input.{Input}
+use Rattle.sip_transactions.specs.declared.input.Input.TheVariants.{Abandon, Answer, Failed, Receive, Start}
+use Rattle.sip_transactions.specs.Machine.{transaction_machine}
+use Rattle.sip_transactions.proofs.Rules.{at_steps}
+use Rattle.sip_user.specs.declared.item.CallOut.{CallOut}
+use Rattle.sip_user.specs.declared.item.CallOut.TheVariants as call_out
+use Rattle.sip_round.specs.declared.config.Config.{Config}
+use Rattle.sip_round.specs.declared.round.Round.{Round}
+use Rattle.sip_round.specs.Answers.{answers}
+use Rattle.sip_round.specs.Given.{all_given}
+use Rattle.sip_round.specs.Laws.{inputs_of}
+use Rattle.sip_conversation.specs.Conversation.{Carried, Side, Turn, peer, rounds_of}
+use Rattle.sip_conversation.specs.Copies.{EachRequestIsRepeated, TicksInTime, copies, ends_by, ends_wait, latest_repeat, pace_of}
+use Rattle.sip_conversation.specs.Delivery.{ArrivesBy, Delivers, GoesOn, IsDelivered, IsUnderWay, OneIsDelivered, RequestsArrive, RunInTime, RunsAfter, ShareAClock, copies_sent, is_lost, is_sent}
+use Rattle.sip_conversation.specs.Messages.{CallSays, CallsKeepRules, IsGiven, come_from}
+use Rattle.sip_conversation.specs.Replies.{AreCounted}
+use Rattle.sip_conversation.specs.Steps.Fair.{IsFair}
+use Rattle.sip_conversation.proofs.Among.{all_go, among_first, each_of}
+use Rattle.sip_conversation.proofs.ComesAt.{text_given}
+use Rattle.sip_conversation.proofs.CopiesSent.{later_copies, sent_at_least}
+use Rattle.sip_conversation.proofs.Fronts.{counted_front, front_carried, front_keeps}
+use Rattle.sip_conversation.proofs.Longer.{rounds_of-append}
+use Rattle.sip_conversation.proofs.OftenSent as often
+use Rattle.sip_conversation.proofs.OneCallId.{out_replies}
+use Rattle.sip_conversation.proofs.RoundInputs.{BeginsWithTick, begins_with_tick, inputs-append, inputs_after, inputs_after_at, inputs_at}
+use Rattle.sip_conversation.proofs.UpTo.{InputBy, InputLater, IsBy, IsFirst, IsLater, Parted, StandsEarly, by_its_moment, each_not, has_first, in_time_after, in_time_first, own_round, parted, rounds_at, some_one, stands_at, stands_early}
+use Rattle.sip_conversation.proofs.WasAnswered.{answered_came, start_said}
+
+module _ (configs : Side → Config) (fair : IsFair configs) (turns : List Turn)
+    (carried : Carried configs turns) (keep : CallsKeepRules configs turns)
+    (lag repeats delay : ℕ) (clock : ShareAClock turns) (runs : RunInTime configs lag turns)
+    (delivers : Delivers configs (suc repeats) delay turns) (s : Side) (branch method : List ℕ)
+    (now : ℕ) (request : Message) (no_cancel : method ≡ codes "CANCEL" → ⊥)
+    (way : IsUnderWay (configs s) (configs (peer s)).local s turns (key.Client branch method) now
+    request)
+    (few : AreCounted (configs s) (rounds_of s turns)) where
+  abbrev config : Config
+  config = configs s
+
+  abbrev there : Addr
+  there = (configs (peer s)).local
+
+  abbrev own_key : Key
+  own_key = key.Client branch method
+
+  abbrev latest : ℕ
+  latest = latest_repeat (pace_of method) lag repeats
+
+  abbrev text : List ℕ
+  text = written request
+
+  abbrev start : Timed Input
+  start = given_at now (Start way.id way.call_id request there)
+
+  -- the turns up to the last repeat, and the inputs of the transaction in them
+  abbrev parts : Parted (now + latest) turns
+  parts = parted (now + latest) turns clock
+
+  abbrev front : List Turn
+  front = parts.front
+
+  abbrev early : List Round
+  early = rounds_of s front
+
+  abbrev late : List Round
+  late = rounds_of s parts.rest
+
+  abbrev first : List (Timed Input)
+  first = inputs_of config early own_key
+
+  abbrev later : List (Timed Input)
+  later = inputs_after config own_key early late
+
+  rounds_are : rounds_of s turns ≡ early ++ late
+  rounds_are = ap (rounds_of s) parts.are ∙ rounds_of-append s front parts.rest
+
+  inputs_are : first ++ later ≡ way.before ++ start ∷ way.after
+  inputs_are = sym (inputs-append config own_key early late)
+      ∙ (ap (λ rounds. inputs_of config rounds own_key) (sym rounds_are) ∙ way.inputs_are)
+
+  all_early : AllByRecursion (InputBy (now + latest)) first
+  all_early = inputs_at config own_key (λ m. m ≤ now + latest) early
+      (rounds_at (λ m. m ≤ now + latest) s front parts.early)
+
+  all_late : AllByRecursion (λ (round : Round). now + latest < round.moment) late
+  all_late = rounds_at (λ m. now + latest < m) s parts.rest parts.late
+
+  stands : StandsEarly (now + latest) way.before start way.after first later
+  stands = stands_early (now + latest) way.before start way.after first later inputs_are
+      (inputs_after_at config own_key (λ m. now + latest < m) early late all_late) (omega arith)
+
+  abbrev waiting : List (Timed Input)
+  waiting = stands.waiting
+
+  is_first : (timed : Timed Input) → Contains (start ∷ waiting) timed → Contains first timed
+  is_first timed among =
+      subst (λ inputs. Contains inputs timed) (sym stands.first_are)
+      (Contains-append_right way.before (start ∷ waiting) timed among)
+
+  started : IsGiven config early own_key (Start way.id way.call_id request there)
+  started = (now, is_first start (among_first start waiting))
+
+  says : CallSays config early
+      (call_out.Command way.id (order.Start own_key way.call_id request there))
+  says = start_said config early own_key way.id way.call_id request there started
+
+  keep_front : CallsKeepRules configs front
+  keep_front = front_keeps configs front parts.rest (subst (CallsKeepRules configs) parts.are keep)
+
+  rules : IsMessage request
+  rules =
+      keep_front s (call_out.Command way.id (order.Start own_key way.call_id request there)) says
+
+  asks : is_request_message request ≡ true
+  asks = out_replies config (fair.calls s) early
+      (call_out.Command way.id (order.Start own_key way.call_id request there)) says
+
+  module _ (soon : latest + delay < 32000) (on : RunsAfter s (now + (latest + delay)) turns) where
+    abbrev Arrives : Type 0
+    Arrives = ArrivesBy configs turns s request (now + (latest + delay))
+
+    -- ---- the wait ends before
+
+    not_kept : (timed : Timed Input) → Contains waiting timed → is_lost timed.input ≡ true → ⊥
+    not_kept timed among lost =
+        false≢true (sym (each_not (λ t. is_lost t.input) way.after way.kept timed
+        (subst (λ inputs. Contains inputs timed) (sym stands.after_are)
+        (Contains-append_left waiting later timed among))) ∙ lost)
+
+    in_front : AllByRecursion (IsBy (now + (latest + delay))) front
+    in_front =
+        all_go {P = IsBy (now + latest)} {Q = IsBy (now + (latest + delay))}
+        (λ turn by. omega (arith, by)) front parts.early
+
+    ended_by : (moment : ℕ) (input : Option Input)
+        → Contains waiting (record { moment = moment; input = input })
+        → ends_by (now + 32000) moment input ≡ true → Arrives
+    ended_by moment None among ends =
+        let by : moment ≤ now + latest =
+        each_of (InputBy (now + latest)) first (record { moment = moment; input = None }) all_early
+        (is_first (record { moment = moment; input = None })
+        (Contains-append_right (start ∷ []) waiting (record { moment = moment; input = None })
+        among)) in
+        let over : now + 32000 ≤ moment = leb-true (now + 32000) moment ends in
+        absurd (omega arith)
+    ended_by moment (Some (Receive id response reply_to)) among ends =
+        let heard = given_at moment (Receive id response reply_to) in
+        let there = answered_came configs fair front
+        (front_carried configs front parts.rest (subst (Carried configs) parts.are carried))
+        keep_front s own_key way.id way.call_id request (configs (peer s)).local started id response
+        reply_to
+        (moment, is_first heard (Contains-append_right (start ∷ []) waiting heard among)) ends
+        no_cancel
+        (counted_front config early late (subst (AreCounted config) rounds_are few)) in
+        record {
+          front = front;
+          rest = parts.rest;
+          are = parts.are;
+          in_time = in_front;
+          key = there.0;
+          id = there.1;
+          reply_to = there.2;
+          given = there.3;
+        }
+    ended_by moment (Some (Start id call_id message to)) among ends = absurd (false≢true ends)
+    ended_by moment (Some (Answer id message)) among ends = absurd (false≢true ends)
+    ended_by moment (Some (Failed id)) among ends =
+        absurd (not_kept (record { moment = moment; input = Some (Failed id) }) among refl)
+    ended_by moment (Some Abandon) among ends =
+        absurd (not_kept (record { moment = moment; input = Some Abandon }) among refl)
+
+    -- ---- all copies go out
+
+    too_late : (on.turn.round).moment ≤ now + latest → ⊥
+    too_late by = let after = on.after in omega (arith, by, after)
+
+    in_rest : Contains parts.rest on.turn
+    in_rest =
+        ⊎_elim
+        (λ before. absurd (too_late (each_of (IsBy (now + latest)) front on.turn parts.early before)))
+        (λ later. later)
+        (Contains-append_cases front parts.rest on.turn
+        (subst (λ ts. Contains ts on.turn) parts.are on.among))
+
+    goes_on : GoesOn delay front parts.rest
+    goes_on =
+        let after : now + (latest + delay) < (on.turn.round).moment = on.after in
+        record {
+          turn = on.turn;
+          among = in_rest;
+          after = all_go {P = IsBy (now + latest)}
+              {Q = λ earlier. (earlier.round).moment + delay < (on.turn.round).moment}
+              (λ turn by. omega (arith, by, after)) front parts.early;
+        }
+
+    next_round : IsFirst late
+    next_round = has_first late on.turn.round
+        (own_round s parts.rest on.turn in_rest on.of)
+
+    sent : list_any (ends_wait (now + 32000)) waiting ≡ false
+        → suc repeats ≤ copies there text
+        (outputs_from transaction_machine own_key None (start ∷ waiting))
+    sent none =
+        let round = next_round.first in
+        let tick : BeginsWithTick config own_key round later =
+        subst (λ rounds. BeginsWithTick config own_key round
+        (inputs_after config own_key early rounds)) (sym next_round.are)
+        (begins_with_tick config own_key early round next_round.more) in
+        let all : inputs_of config (rounds_of s turns) own_key
+        ≡ way.before ++ ((start ∷ waiting ++ tick_at round.moment ∷ []) ++ tick.rest) =
+        way.inputs_are ∙ ap (λ after. way.before ++ start ∷ after) (stands.after_are
+        ∙ (ap (λ more. waiting ++ more) tick.are
+        ∙ sym (append_assoc waiting (tick_at round.moment ∷ []) tick.rest))) in
+        let from_start = in_time_after lag own_key None way.before
+        ((start ∷ waiting ++ tick_at round.moment ∷ []) ++ tick.rest)
+        (subst (TicksInTime transaction_machine lag own_key None) all (runs s own_key)) in
+        let in_time = in_time_first lag own_key None (start ∷ waiting ++ tick_at round.moment ∷ [])
+        tick.rest
+        (subst (λ held. TicksInTime transaction_machine lag own_key held
+        ((start ∷ waiting ++ tick_at round.moment ∷ []) ++ tick.rest)) way.new from_start) in
+        let late_rounds : AllByRecursion (λ (r : Round). now + latest < r.moment)
+        (round ∷ next_round.more) =
+        subst (AllByRecursion (λ (r : Round). now + latest < r.moment)) next_round.are all_late in
+        at_steps EachRequestIsRepeated often.a_request_is_repeated branch method lag repeats now
+        round.moment way.id way.call_id request there waiting in_time none late_rounds.0
+
+    enough : list_any (ends_wait (now + 32000)) waiting ≡ false
+        → suc repeats ≤ copies_sent configs [] front s text
+    enough none =
+        let own = sent none in
+        let more : copies there text (outputs_from transaction_machine own_key None (start ∷ waiting))
+        ≤ copies there text (outputs_from transaction_machine own_key None first) =
+        subst (λ inputs. copies there text
+        (outputs_from transaction_machine own_key None (start ∷ waiting))
+        ≤ copies there text (outputs_from transaction_machine own_key None inputs))
+        (sym stands.first_are)
+        (later_copies there text own_key way.before (start ∷ waiting) way.new) in
+        let all = sent_at_least there text fair.transactions config early own_key in
+        omega (arith, own, more, all)
+
+    one_comes : OneIsDelivered configs delay [] front parts.rest s text → Arrives
+    one_comes one =
+        let came = one.delivered in
+        let at : Turn = came.at in
+        let later = stands_at (one.rest ++ parts.rest) at came.among in
+        let until = one.front ++ one.turn ∷ later.before in
+        let all : turns ≡ until ++ at ∷ later.after =
+        parts.are ∙ (ap (λ ts. ts ++ parts.rest) one.are
+        ∙ (append_assoc one.front (one.turn ∷ one.rest) parts.rest
+        ∙ (ap (λ ts. one.front ++ one.turn ∷ ts) later.are
+        ∙ sym (append_assoc one.front (one.turn ∷ later.before) (at ∷ later.after))))) in
+        let up_to = until ++ at ∷ [] in
+        let sent_by : (one.turn.round).moment ≤ now + latest =
+        each_of (IsBy (now + latest)) front one.turn parts.early
+        (subst (λ ts. Contains ts one.turn) (sym one.are)
+        (Contains-append_right one.front (one.turn ∷ one.rest) one.turn
+        (among_first one.turn one.rest))) in
+        let soon_after : (at.round).moment ≤ (one.turn.round).moment + delay = came.soon in
+        let given = text_given request rules way.short asks config.local (configs (peer s))
+        (rounds_of (peer s) up_to) at.round
+        (own_round (peer s) up_to at (Contains-push until at) came.to) came.comes in
+        record {
+          front = up_to;
+          rest = later.after;
+          are = all ∙ sym (append_assoc until (at ∷ []) later.after);
+          in_time = all_go {P = IsBy (at.round).moment} {Q = IsBy (now + (latest + delay))}
+              (λ turn by. omega (arith, by, sent_by, soon_after)) up_to
+              (by_its_moment until at later.after (subst ShareAClock all clock));
+          key = key_of_message (come_from config.local request);
+          id = given.0;
+          reply_to = answer_address request config.local;
+          given = given.1;
+        }
+
+    pub arrives : Arrives
+    arrives =
+        by_bool (list_any (ends_wait (now + 32000)) waiting)
+        (λ ends. let one = some_one (ends_wait (now + 32000)) waiting ends in
+        ended_by one.one.moment one.one.input one.among one.passes)
+        (λ none. one_comes (delivers [] front parts.rest parts.are s text (enough none) goes_on))

@@ -1,0 +1,158 @@
+-- That a request arrives: over a network that delivers one of several copies of a datagram, between
+-- agents that run in time.
+use Rattle.std.specs.Prelude.{◌≡◌, ℕ, suc, ◌+◌, ◌≤◌, ◌<◌, Bool, true, false, ◌&&◌, List, [], ◌∷◌, ◌++◌, Contains, Option, None, Some, codes, count_by, drop, length}
+use Rattle.std.specs.List.{AllByRecursion, list_any}
+use Rattle.std.specs.Str.{bytes_eq}
+use Rattle.sip_message.specs.declared.addr.Addr.{Addr}
+use Rattle.sip_message.specs.declared.id.Id.{Id}
+use Rattle.sip_message.specs.declared.key.Key.{Key}
+use Rattle.sip_message.specs.declared.key.Key.TheVariants as key
+use Rattle.sip_message.specs.declared.message.Message.{Message}
+use Rattle.sip_message.specs.Written.{written}
+use Rattle.sip_timers.specs.declared.estimate.TheConstants.{LIFETIME as 64*T1}
+use Rattle.keyed_machine.specs.Machine.{Timed, given_at, state_after}
+use Rattle.sip_transactions.specs.declared.input.Input.{Input}
+use Rattle.sip_transactions.specs.declared.input.Input.TheVariants.{Receive, Start, Answer, Failed, Abandon}
+use Rattle.sip_transactions.specs.declared.output.Out.TheVariants.{Up}
+use Rattle.sip_transactions.specs.declared.output.Up.{Up as AnUp}
+use Rattle.sip_transactions.specs.declared.output.UpKind.TheVariants.{Request}
+use Rattle.sip_transactions.specs.Machine.{transaction_machine}
+use Rattle.sip_round.specs.declared.config.Config.{Config}
+use Rattle.sip_round.specs.declared.output.Output.{Output}
+use Rattle.sip_round.specs.declared.output.Output.TheVariants as output
+use Rattle.sip_round.specs.declared.round.Event.TheVariants.{Datagram}
+use Rattle.sip_round.specs.Answers.{answers}
+use Rattle.sip_round.specs.Given.{all_given}
+use Rattle.sip_round.specs.Laws.{inputs_of, said_of}
+use Rattle.sip_conversation.specs.Conversation.{Side, Turn, peer, rounds_of}
+use Rattle.sip_conversation.specs.Copies.{TicksInTime, is_address, latest_repeat, pace_of}
+use Rattle.sip_conversation.specs.Messages.{IsGiven, come_from}
+use Rattle.sip_conversation.specs.Replies.{AreCounted}
+
+-- ---- the premises
+
+-- the moments of these turns are of one clock, and it doesn't go back
+abbrev pub ShareAClock : List Turn → Type 0
+ShareAClock [] = Unit {0}
+ShareAClock (turn ∷ turns) =
+    AllByRecursion (λ later. (turn.round).moment ≤ (later.round).moment) turns
+    × ShareAClock turns
+
+-- a datagram with these bytes goes out to this address
+abbrev pub is_sent : Addr → List ℕ → Output → Bool
+is_sent to bytes (output.Send key at sent) = is_address at to && bytes_eq sent bytes
+is_sent to bytes (output.Dropped place why) = false
+is_sent to bytes (output.Notice notice) = false
+
+-- a turn comes more than `delay` ms after all of these
+pub record GoesOn (delay : ℕ) (turns later : List Turn) : Type 0 where
+  pub turn : Turn
+  pub among : Contains later turn
+  pub after : AllByRecursion (λ earlier. (earlier.round).moment + delay < (turn.round).moment)
+      turns
+
+module _ (configs : Side → Config) where
+  -- if a timer of a transaction is due, its side runs its next round at most `lag` ms later (a round
+  -- gives each transaction a tick)
+  abbrev pub RunInTime : ℕ → List Turn → Type 0
+  RunInTime lag turns = (side : Side) (key : Key)
+      → TicksInTime transaction_machine lag key None
+      (inputs_of (configs side) (rounds_of side turns) key)
+
+  -- how many datagrams with these bytes a side sends to the other one in turns, which come after
+  -- those before
+  abbrev pub copies_sent : List Turn → List Turn → Side → List ℕ → ℕ
+  copies_sent before turns side bytes = count_by (is_sent (configs (peer side)).local bytes)
+      (all_given (drop (length (rounds_of side before))
+      (answers (configs side) (rounds_of side (before ++ turns)))))
+
+  -- a side sends such a datagram in a turn, after those before; one comes to the other side later,
+  -- at most `delay` ms after that turn
+  pub record IsDelivered (delay : ℕ) (before : List Turn) (turn : Turn) (later : List Turn)
+      (side : Side) (bytes : List ℕ) : Type 0 where
+    pub sent : 1 ≤ copies_sent before (turn ∷ []) side bytes
+    pub at : Turn
+    pub among : Contains later at
+    pub to : at.side ≡ peer side
+    pub soon : (at.round).moment ≤ (turn.round).moment + delay
+    pub comes : Contains (at.round).events (Datagram (configs side).local bytes)
+
+  -- one of the copies that are sent in turns is delivered
+  pub record OneIsDelivered (delay : ℕ) (before turns later : List Turn) (side : Side)
+      (bytes : List ℕ) : Type 0 where
+    pub front : List Turn
+    pub turn : Turn
+    pub rest : List Turn
+    pub are : turns ≡ front ++ turn ∷ rest
+    pub delivered : IsDelivered delay (before ++ front) turn (rest ++ later) side bytes
+
+  -- Of any `tries` copies of a datagram that a side sends to the other one, one after another, one
+  -- at least is delivered within `delay` ms, if the turns go on for so long. All else may be lost,
+  -- duplicated, late, or out of order.
+  abbrev pub Delivers : ℕ → ℕ → List Turn → Type 0
+  Delivers tries delay turns = (before during after : List Turn)
+      → turns ≡ before ++ (during ++ after) → (side : Side) (bytes : List ℕ)
+      → tries ≤ copies_sent before during side bytes → GoesOn delay during after
+      → OneIsDelivered delay before during after side bytes
+
+-- ---- the law
+
+-- the user gives a request up, or it couldn't be sent
+abbrev pub is_lost : Option Input → Bool
+is_lost None = false
+is_lost (Some (Receive id message reply_to)) = false
+is_lost (Some (Start id call_id message to)) = false
+is_lost (Some (Answer id message)) = false
+is_lost (Some (Failed id)) = true
+is_lost (Some Abandon) = true
+
+-- At this moment a transaction of a side, of which nothing was held, was started with this request
+-- to the other side, with a text of at most 65,535 bytes. In these turns the user doesn't give it
+-- up, and no send of it is reported to have failed.
+pub record IsUnderWay (config : Config) (to : Addr) (side : Side) (turns : List Turn) (key : Key)
+    (now : ℕ) (request : Message) : Type 0 where
+  pub before : List (Timed Input)
+  pub id : Id
+  pub call_id : List ℕ
+  pub after : List (Timed Input)
+  pub inputs_are : inputs_of config (rounds_of side turns) key
+      ≡ before ++ given_at now (Start id call_id request to) ∷ after
+  pub new : state_after transaction_machine key before ≡ None
+  pub short : length (written request) ≤ 65535
+  pub kept : list_any (λ timed. is_lost timed.input) after ≡ false
+
+-- In turns up to this moment the request came to a transaction of the other side, as it was sent,
+-- except for the stamp; and the transaction handed it up to its call.
+pub record ArrivesBy (configs : Side → Config) (turns : List Turn) (side : Side)
+    (request : Message) (moment : ℕ) : Type 0 where
+  pub front : List Turn
+  pub rest : List Turn
+  pub are : turns ≡ front ++ rest
+  pub in_time : AllByRecursion (λ turn. (turn.round).moment ≤ moment) front
+  pub key : Key
+  pub id : Id
+  pub reply_to : Addr
+  pub given : IsGiven (configs (peer side)) (rounds_of (peer side) front) key
+      (Receive id (come_from (configs side).local request) reply_to)
+
+-- the turns of a side go on after this moment
+pub record RunsAfter (side : Side) (moment : ℕ) (turns : List Turn) : Type 0 where
+  pub turn : Turn
+  pub among : Contains turns turn
+  pub of : turn.side ≡ side
+  pub after : moment < (turn.round).moment
+
+-- A request other than CANCEL, which isn't given up, arrives, and that by the moment of its last try
+-- and the delay of the network, if that is before timer B or F fires. The tries are the request and
+-- its repeats.
+abbrev pub RequestsArrive : (Side → Config) → List Turn → Type 0
+RequestsArrive configs turns = (lag repeats delay : ℕ) → ShareAClock turns
+    → RunInTime configs lag turns → Delivers configs (suc repeats) delay turns
+    → (side : Side) (branch method : List ℕ) (now : ℕ) (request : Message)
+    → (method ≡ codes "CANCEL" → ⊥)
+    → IsUnderWay (configs side) (configs (peer side)).local side turns (key.Client branch method) now
+    request
+    → AreCounted (configs side) (rounds_of side turns)
+    → let last = latest_repeat (pace_of method) lag repeats + delay in
+    last < 64*T1 → RunsAfter side (now + last) turns
+    → ArrivesBy configs turns side request (now + last)
