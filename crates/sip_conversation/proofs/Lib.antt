@@ -90,4 +90,6 @@ pub mod UpTo
 pub mod ComesAt
 pub mod WasAnswered
 pub mod HandedUp
+pub mod ComesUp
+pub mod SameRequest
 pub mod RequestsArrive

@@ -8,6 +8,7 @@ use Rattle.sip_message.specs.declared.addr.Addr.{Addr}
 use Rattle.sip_message.specs.declared.id.Id.{Id}
 use Rattle.sip_message.specs.declared.key.Key.{Key}
 use Rattle.sip_message.specs.declared.key.Key.TheVariants as key
+use Rattle.sip_message.specs.Key.{method_in}
 use Rattle.sip_message.specs.declared.message.Message.{Message}
 use Rattle.sip_message.specs.Message.{is_request_message}
 use Rattle.sip_message.specs.MessageKey.{key_of_message}
@@ -34,7 +35,7 @@ use Rattle.sip_conversation.specs.Delivery.{ArrivesBy, Delivers, GoesOn, IsDeliv
 use Rattle.sip_conversation.specs.Messages.{CallSays, CallsKeepRules, IsGiven, come_from}
 use Rattle.sip_conversation.specs.Replies.{AreCounted}
 use Rattle.sip_conversation.specs.Steps.Fair.{IsFair}
-use Rattle.sip_conversation.proofs.Among.{all_go, among_first, each_of}
+use Rattle.sip_conversation.proofs.Among.{all_go, among_first, among_later, each_of}
 use Rattle.sip_conversation.proofs.ComesAt.{text_given}
 use Rattle.sip_conversation.proofs.CopiesSent.{later_copies, sent_at_least}
 use Rattle.sip_conversation.proofs.Fronts.{counted_front, front_carried, front_keeps}
@@ -43,7 +44,9 @@ use Rattle.sip_conversation.proofs.OftenSent as often
 use Rattle.sip_conversation.proofs.OneCallId.{out_replies}
 use Rattle.sip_conversation.proofs.RoundInputs.{BeginsWithTick, begins_with_tick, inputs-append, inputs_after, inputs_after_at, inputs_at}
 use Rattle.sip_conversation.proofs.UpTo.{InputBy, InputLater, IsBy, IsFirst, IsLater, Parted, StandsEarly, by_its_moment, each_not, has_first, in_time_after, in_time_first, own_round, parted, rounds_at, some_one, stands_at, stands_early}
-use Rattle.sip_conversation.proofs.WasAnswered.{answered_came, start_said}
+use Rattle.sip_conversation.proofs.RequestsAsked.{out_own}
+use Rattle.sip_conversation.proofs.SameRequest.{handed_up}
+use Rattle.sip_conversation.proofs.WasAnswered.{GivenThere, answered_came, start_said}
 
 module _ (configs : Side → Config) (fair : IsFair configs) (turns : List Turn)
     (carried : Carried configs turns) (keep : CallsKeepRules configs turns)
@@ -71,9 +74,100 @@ module _ (configs : Side → Config) (fair : IsFair configs) (turns : List Turn)
   abbrev start : Timed Input
   start = given_at now (Start way.id way.call_id request there)
 
-  -- the turns up to the last repeat, and the inputs of the transaction in them
+  -- ---- the turns up to a moment, and the inputs of the transaction in them
+
+  module _ (moment : ℕ) (from : now ≤ moment) where
+    abbrev parts_to : Parted moment turns
+    parts_to = parted moment turns clock
+
+    abbrev front_to : List Turn
+    front_to = parts_to.front
+
+    abbrev early_to : List Round
+    early_to = rounds_of s front_to
+
+    abbrev late_to : List Round
+    late_to = rounds_of s parts_to.rest
+
+    abbrev first_to : List (Timed Input)
+    first_to = inputs_of config early_to own_key
+
+    abbrev later_to : List (Timed Input)
+    later_to = inputs_after config own_key early_to late_to
+
+    rounds_to : rounds_of s turns ≡ early_to ++ late_to
+    rounds_to = ap (rounds_of s) parts_to.are ∙ rounds_of-append s front_to parts_to.rest
+
+    inputs_to : first_to ++ later_to ≡ way.before ++ start ∷ way.after
+    inputs_to = sym (inputs-append config own_key early_to late_to)
+        ∙ (ap (λ rounds. inputs_of config rounds own_key) (sym rounds_to) ∙ way.inputs_are)
+
+    all_late : AllByRecursion (λ (round : Round). moment < round.moment) late_to
+    all_late = rounds_at (λ m. moment < m) s parts_to.rest parts_to.late
+
+    stands_to : StandsEarly moment way.before start way.after first_to later_to
+    stands_to = stands_early moment way.before start way.after first_to later_to inputs_to
+        (inputs_after_at config own_key (λ m. moment < m) early_to late_to all_late) from
+
+    is_first_to : (timed : Timed Input) → Contains (start ∷ stands_to.waiting) timed
+        → Contains first_to timed
+    is_first_to timed among =
+        subst (λ inputs. Contains inputs timed) (sym stands_to.first_are)
+        (Contains-append_right way.before (start ∷ stands_to.waiting) timed among)
+
+    started_to : IsGiven config early_to own_key (Start way.id way.call_id request there)
+    started_to = (now, is_first_to start (among_first start stands_to.waiting))
+
+    says_to : CallSays config early_to
+        (call_out.Command way.id (order.Start own_key way.call_id request there))
+    says_to = start_said config early_to own_key way.id way.call_id request there started_to
+
+    carried_to : Carried configs front_to
+    carried_to =
+        front_carried configs front_to parts_to.rest (subst (Carried configs) parts_to.are carried)
+
+    keep_to : CallsKeepRules configs front_to
+    keep_to =
+        front_keeps configs front_to parts_to.rest (subst (CallsKeepRules configs) parts_to.are keep)
+
+    few_to : AreCounted config early_to
+    few_to = counted_front config early_to late_to (subst (AreCounted config) rounds_to few)
+
+    rules_to : IsMessage request
+    rules_to =
+        keep_to s (call_out.Command way.id (order.Start own_key way.call_id request there)) says_to
+
+    asks_to : is_request_message request ≡ true
+    asks_to = out_replies config (fair.calls s) early_to
+        (call_out.Command way.id (order.Start own_key way.call_id request there)) says_to
+
+    own_method : request.cseq.method ≡ codes "CANCEL" → ⊥
+    own_method cancel = no_cancel (ap method_in (out_own config early_to (fair.calls s)
+        (call_out.Command way.id (order.Start own_key way.call_id request there)) says_to).key_is
+        ∙ cancel)
+
+    -- if it came to the other side by the moment, it came up there
+    arrives_by : GivenThere configs fair front_to carried_to keep_to s (come_from config.local request)
+        → ArrivesBy configs turns s request moment
+    arrives_by given =
+        let one = handed_up configs fair front_to carried_to keep_to s few_to way.id own_key
+        way.call_id request there says_to asks_to own_method given.0 given.1 given.2 given.3 in
+        record {
+          front = front_to;
+          rest = parts_to.rest;
+          are = parts_to.are;
+          in_time = parts_to.early;
+          up = one.up;
+          comes = one.handed;
+        }
+
+  -- ---- up to the last repeat
+
+  start_by : now ≤ now + latest
+  start_by = omega arith
+
   abbrev parts : Parted (now + latest) turns
-  parts = parted (now + latest) turns clock
+  parts = parts_to (now + latest) start_by
 
   abbrev front : List Turn
   front = parts.front
@@ -90,53 +184,29 @@ module _ (configs : Side → Config) (fair : IsFair configs) (turns : List Turn)
   abbrev later : List (Timed Input)
   later = inputs_after config own_key early late
 
-  rounds_are : rounds_of s turns ≡ early ++ late
-  rounds_are = ap (rounds_of s) parts.are ∙ rounds_of-append s front parts.rest
-
-  inputs_are : first ++ later ≡ way.before ++ start ∷ way.after
-  inputs_are = sym (inputs-append config own_key early late)
-      ∙ (ap (λ rounds. inputs_of config rounds own_key) (sym rounds_are) ∙ way.inputs_are)
-
   all_early : AllByRecursion (InputBy (now + latest)) first
   all_early = inputs_at config own_key (λ m. m ≤ now + latest) early
       (rounds_at (λ m. m ≤ now + latest) s front parts.early)
 
-  all_late : AllByRecursion (λ (round : Round). now + latest < round.moment) late
-  all_late = rounds_at (λ m. now + latest < m) s parts.rest parts.late
-
-  stands : StandsEarly (now + latest) way.before start way.after first later
-  stands = stands_early (now + latest) way.before start way.after first later inputs_are
-      (inputs_after_at config own_key (λ m. now + latest < m) early late all_late) (omega arith)
+  abbrev stands : StandsEarly (now + latest) way.before start way.after first later
+  stands = stands_to (now + latest) start_by
 
   abbrev waiting : List (Timed Input)
   waiting = stands.waiting
 
-  is_first : (timed : Timed Input) → Contains (start ∷ waiting) timed → Contains first timed
+  is_first : (timed : Timed Input) → Contains waiting timed → Contains first timed
   is_first timed among =
-      subst (λ inputs. Contains inputs timed) (sym stands.first_are)
-      (Contains-append_right way.before (start ∷ waiting) timed among)
-
-  started : IsGiven config early own_key (Start way.id way.call_id request there)
-  started = (now, is_first start (among_first start waiting))
-
-  says : CallSays config early
-      (call_out.Command way.id (order.Start own_key way.call_id request there))
-  says = start_said config early own_key way.id way.call_id request there started
-
-  keep_front : CallsKeepRules configs front
-  keep_front = front_keeps configs front parts.rest (subst (CallsKeepRules configs) parts.are keep)
-
-  rules : IsMessage request
-  rules =
-      keep_front s (call_out.Command way.id (order.Start own_key way.call_id request there)) says
-
-  asks : is_request_message request ≡ true
-  asks = out_replies config (fair.calls s) early
-      (call_out.Command way.id (order.Start own_key way.call_id request there)) says
+      is_first_to (now + latest) start_by timed (among_later start waiting timed among)
 
   module _ (soon : latest + delay < 32000) (on : RunsAfter s (now + (latest + delay)) turns) where
+    abbrev last : ℕ
+    last = now + (latest + delay)
+
+    start_before : now ≤ last
+    start_before = omega arith
+
     abbrev Arrives : Type 0
-    Arrives = ArrivesBy configs turns s request (now + (latest + delay))
+    Arrives = ArrivesBy configs turns s request last
 
     -- ---- the wait ends before
 
@@ -146,10 +216,16 @@ module _ (configs : Side → Config) (fair : IsFair configs) (turns : List Turn)
         (subst (λ inputs. Contains inputs timed) (sym stands.after_are)
         (Contains-append_left waiting later timed among))) ∙ lost)
 
-    in_front : AllByRecursion (IsBy (now + (latest + delay))) front
-    in_front =
-        all_go {P = IsBy (now + latest)} {Q = IsBy (now + (latest + delay))}
-        (λ turn by. omega (arith, by)) front parts.early
+    earlier : ArrivesBy configs turns s request (now + latest) → Arrives
+    earlier came = record {
+      front = came.front;
+      rest = came.rest;
+      are = came.are;
+      in_time = all_go {P = IsBy (now + latest)} {Q = IsBy last} (λ turn by. omega (arith, by))
+          came.front came.in_time;
+      up = came.up;
+      comes = came.comes;
+    }
 
     ended_by : (moment : ℕ) (input : Option Input)
         → Contains waiting (record { moment = moment; input = input })
@@ -157,30 +233,16 @@ module _ (configs : Side → Config) (fair : IsFair configs) (turns : List Turn)
     ended_by moment None among ends =
         let by : moment ≤ now + latest =
         each_of (InputBy (now + latest)) first (record { moment = moment; input = None }) all_early
-        (is_first (record { moment = moment; input = None })
-        (Contains-append_right (start ∷ []) waiting (record { moment = moment; input = None })
-        among)) in
+        (is_first (record { moment = moment; input = None }) among) in
         let over : now + 32000 ≤ moment = leb-true (now + 32000) moment ends in
         absurd (omega arith)
     ended_by moment (Some (Receive id response reply_to)) among ends =
         let heard = given_at moment (Receive id response reply_to) in
-        let there = answered_came configs fair front
-        (front_carried configs front parts.rest (subst (Carried configs) parts.are carried))
-        keep_front s own_key way.id way.call_id request (configs (peer s)).local started id response
-        reply_to
-        (moment, is_first heard (Contains-append_right (start ∷ []) waiting heard among)) ends
-        no_cancel
-        (counted_front config early late (subst (AreCounted config) rounds_are few)) in
-        record {
-          front = front;
-          rest = parts.rest;
-          are = parts.are;
-          in_time = in_front;
-          key = there.0;
-          id = there.1;
-          reply_to = there.2;
-          given = there.3;
-        }
+        earlier (arrives_by (now + latest) start_by
+        (answered_came configs fair front (carried_to (now + latest) start_by)
+        (keep_to (now + latest) start_by) s own_key way.id way.call_id request there
+        (started_to (now + latest) start_by) id response reply_to
+        (moment, is_first heard among) ends no_cancel (few_to (now + latest) start_by)))
     ended_by moment (Some (Start id call_id message to)) among ends = absurd (false≢true ends)
     ended_by moment (Some (Answer id message)) among ends = absurd (false≢true ends)
     ended_by moment (Some (Failed id)) among ends =
@@ -239,7 +301,8 @@ module _ (configs : Side → Config) (fair : IsFair configs) (turns : List Turn)
         ((start ∷ waiting ++ tick_at round.moment ∷ []) ++ tick.rest)) way.new from_start) in
         let late_rounds : AllByRecursion (λ (r : Round). now + latest < r.moment)
         (round ∷ next_round.more) =
-        subst (AllByRecursion (λ (r : Round). now + latest < r.moment)) next_round.are all_late in
+        subst (AllByRecursion (λ (r : Round). now + latest < r.moment)) next_round.are
+        (all_late (now + latest) start_by) in
         at_steps EachRequestIsRepeated often.a_request_is_repeated branch method lag repeats now
         round.moment way.id way.call_id request there waiting in_time none late_rounds.0
 
@@ -257,39 +320,42 @@ module _ (configs : Side → Config) (fair : IsFair configs) (turns : List Turn)
         let all = sent_at_least there text fair.transactions config early own_key in
         omega (arith, own, more, all)
 
+    not_after : (at : Turn) → (at.round).moment ≤ last → IsLater last at → ⊥
+    not_after at by after = omega arith
+
     one_comes : OneIsDelivered configs delay [] front parts.rest s text → Arrives
     one_comes one =
         let came = one.delivered in
         let at : Turn = came.at in
-        let later = stands_at (one.rest ++ parts.rest) at came.among in
-        let until = one.front ++ one.turn ∷ later.before in
-        let all : turns ≡ until ++ at ∷ later.after =
-        parts.are ∙ (ap (λ ts. ts ++ parts.rest) one.are
-        ∙ (append_assoc one.front (one.turn ∷ one.rest) parts.rest
-        ∙ (ap (λ ts. one.front ++ one.turn ∷ ts) later.are
-        ∙ sym (append_assoc one.front (one.turn ∷ later.before) (at ∷ later.after))))) in
-        let up_to = until ++ at ∷ [] in
+        let by : (at.round).moment ≤ last =
+        let soon_after : (at.round).moment ≤ (one.turn.round).moment + delay = came.soon in
         let sent_by : (one.turn.round).moment ≤ now + latest =
         each_of (IsBy (now + latest)) front one.turn parts.early
         (subst (λ ts. Contains ts one.turn) (sym one.are)
         (Contains-append_right one.front (one.turn ∷ one.rest) one.turn
         (among_first one.turn one.rest))) in
-        let soon_after : (at.round).moment ≤ (one.turn.round).moment + delay = came.soon in
-        let given = text_given request rules way.short asks config.local (configs (peer s))
-        (rounds_of (peer s) up_to) at.round
-        (own_round (peer s) up_to at (Contains-push until at) came.to) came.comes in
-        record {
-          front = up_to;
-          rest = later.after;
-          are = all ∙ sym (append_assoc until (at ∷ []) later.after);
-          in_time = all_go {P = IsBy (at.round).moment} {Q = IsBy (now + (latest + delay))}
-              (λ turn by. omega (arith, by, sent_by, soon_after)) up_to
-              (by_its_moment until at later.after (subst ShareAClock all clock));
-          key = key_of_message (come_from config.local request);
-          id = given.0;
-          reply_to = answer_address request config.local;
-          given = given.1;
-        }
+        omega (arith, soon_after, sent_by) in
+        let whole = parts_to last start_before in
+        let among : Contains turns at =
+        subst (λ ts. Contains ts at) (sym (parts.are ∙ (ap (λ ts. ts ++ parts.rest) one.are
+        ∙ append_assoc one.front (one.turn ∷ one.rest) parts.rest)))
+        (Contains-append_right one.front (one.turn ∷ one.rest ++ parts.rest) at
+        (among_later one.turn (one.rest ++ parts.rest) at came.among)) in
+        let early_enough : Contains whole.front at =
+        ⊎_elim (λ early. early)
+        (λ late. absurd (not_after at by (each_of (IsLater last) whole.rest at whole.late late)))
+        (Contains-append_cases whole.front whole.rest at
+        (subst (λ ts. Contains ts at) whole.are among)) in
+        let given = text_given request (rules_to last start_before) way.short
+        (asks_to last start_before) config.local (configs (peer s))
+        (rounds_of (peer s) whole.front) at.round
+        (own_round (peer s) whole.front at early_enough came.to) came.comes in
+        arrives_by last start_before (
+          key_of_message (come_from config.local request),
+          given.0,
+          answer_address request config.local,
+          given.1,
+        )
 
     pub arrives : Arrives
     arrives =

@@ -97,7 +97,7 @@ module _ (configs : Side → Config) (fair : IsFair configs) (turns : List Turn)
   other = peer s
 
   -- a request that came to the other side, and that this side said
-  abbrev GivenThere : Message → Type 0
+  abbrev pub GivenThere : Message → Type 0
   GivenThere message = (key : Key) × (id : Id) × (reply_to : Addr)
       × IsGiven (configs other) (rounds_of other turns) key (input.Receive id message reply_to)
 

@@ -13,9 +13,7 @@ use Rattle.sip_timers.specs.declared.estimate.TheConstants.{LIFETIME as 64*T1}
 use Rattle.keyed_machine.specs.Machine.{Timed, given_at, state_after}
 use Rattle.sip_transactions.specs.declared.input.Input.{Input}
 use Rattle.sip_transactions.specs.declared.input.Input.TheVariants.{Receive, Start, Answer, Failed, Abandon}
-use Rattle.sip_transactions.specs.declared.output.Out.TheVariants.{Up}
-use Rattle.sip_transactions.specs.declared.output.Up.{Up as AnUp}
-use Rattle.sip_transactions.specs.declared.output.UpKind.TheVariants.{Request}
+use Rattle.sip_transactions.specs.declared.output.Up.{Up}
 use Rattle.sip_transactions.specs.Machine.{transaction_machine}
 use Rattle.sip_round.specs.declared.config.Config.{Config}
 use Rattle.sip_round.specs.declared.output.Output.{Output}
@@ -23,10 +21,11 @@ use Rattle.sip_round.specs.declared.output.Output.TheVariants as output
 use Rattle.sip_round.specs.declared.round.Event.TheVariants.{Datagram}
 use Rattle.sip_round.specs.Answers.{answers}
 use Rattle.sip_round.specs.Given.{all_given}
-use Rattle.sip_round.specs.Laws.{inputs_of, said_of}
+use Rattle.sip_round.specs.Laws.{inputs_of}
+use Rattle.sip_conversation.specs.Answers.{IsHandedUp}
 use Rattle.sip_conversation.specs.Conversation.{Side, Turn, peer, rounds_of}
 use Rattle.sip_conversation.specs.Copies.{TicksInTime, is_address, latest_repeat, pace_of}
-use Rattle.sip_conversation.specs.Messages.{IsGiven, come_from}
+use Rattle.sip_conversation.specs.Messages.{come_from}
 use Rattle.sip_conversation.specs.Replies.{AreCounted}
 
 -- ---- the premises
@@ -121,19 +120,17 @@ pub record IsUnderWay (config : Config) (to : Addr) (side : Side) (turns : List 
   pub short : length (written request) ≤ 65535
   pub kept : list_any (λ timed. is_lost timed.input) after ≡ false
 
--- In turns up to this moment the request came to a transaction of the other side, as it was sent,
--- except for the stamp; and the transaction handed it up to its call.
+-- In turns up to this moment the request came up to the call of its Call-ID at the other side, as it
+-- was sent, except for the stamp. (Its transaction there answers repeats that come later.)
 pub record ArrivesBy (configs : Side → Config) (turns : List Turn) (side : Side)
     (request : Message) (moment : ℕ) : Type 0 where
   pub front : List Turn
   pub rest : List Turn
   pub are : turns ≡ front ++ rest
   pub in_time : AllByRecursion (λ turn. (turn.round).moment ≤ moment) front
-  pub key : Key
-  pub id : Id
-  pub reply_to : Addr
-  pub given : IsGiven (configs (peer side)) (rounds_of (peer side) front) key
-      (Receive id (come_from (configs side).local request) reply_to)
+  pub up : Up
+  pub comes : IsHandedUp (configs (peer side)) (rounds_of (peer side) front)
+      (come_from (configs side).local request) up
 
 -- the turns of a side go on after this moment
 pub record RunsAfter (side : Side) (moment : ℕ) (turns : List Turn) : Type 0 where

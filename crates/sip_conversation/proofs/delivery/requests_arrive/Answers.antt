@@ -2,7 +2,6 @@
 use Rattle.sip_conversation.specs.Conversation.{of_sides}
 use Rattle.sip_conversation.proofs.CallsKeep.{by_types}
 use Rattle.sip_conversation.proofs.RequestsArrive.{arrives}
-use Rattle.sip_conversation.proofs.HandedUp.{request_handed}
 use Rattle.sip_conversation.proofs.delivery.requests_arrive.Goals as goal
 
 pub returns : goal.returns
