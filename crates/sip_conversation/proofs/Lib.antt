@@ -92,4 +92,5 @@ pub mod WasAnswered
 pub mod HandedUp
 pub mod ComesUp
 pub mod SameRequest
+pub mod ToldOrAnswered
 pub mod RequestsArrive

@@ -2,6 +2,8 @@
 use Rattle.std.proofs.Common.{◌≡◌, ⊎_elim, ℕ, suc, ◌+◌, ◌<◌, ◌≤◌, Bool, true, false, List, [], ◌∷◌, ◌++◌, length, refl, sym, ap, ◌∙◌, subst, arith, codes, append_assoc}
 use Rattle.std.specs.Prelude.{Contains, Option, None, Some, count_by}
 use Rattle.std.specs.List.{AllByRecursion, list_any}
+use Rattle.std.specs.Str.{bytes_eq}
+use Rattle.std.proofs.lemmas.Slice.Eq.{bytes_eq-Decides}
 use Rattle.std.proofs.lemmas.Bool.{false≢true, leb-true}
 use Rattle.std.proofs.lemmas.List.Elements.{Contains-append_cases, Contains-append_left, Contains-append_right, Contains-push}
 use Rattle.sip_message.specs.declared.addr.Addr.{Addr}
@@ -46,6 +48,7 @@ use Rattle.sip_conversation.proofs.RoundInputs.{BeginsWithTick, begins_with_tick
 use Rattle.sip_conversation.proofs.UpTo.{InputBy, InputLater, IsBy, IsFirst, IsLater, Parted, StandsEarly, by_its_moment, each_not, has_first, in_time_after, in_time_first, own_round, parted, rounds_at, some_one, stands_at, stands_early}
 use Rattle.sip_conversation.proofs.RequestsAsked.{out_own}
 use Rattle.sip_conversation.proofs.SameRequest.{handed_up}
+use Rattle.sip_conversation.proofs.ToldOrAnswered.{told_or_answered}
 use Rattle.sip_conversation.proofs.WasAnswered.{GivenThere, answered_came, start_said}
 
 module _ (configs : Side → Config) (fair : IsFair configs) (turns : List Turn)
@@ -73,6 +76,9 @@ module _ (configs : Side → Config) (fair : IsFair configs) (turns : List Turn)
 
   abbrev start : Timed Input
   start = given_at now (Start way.id way.call_id request there)
+
+  abbrev as_it_comes : Message
+  as_it_comes = come_from config.local request
 
   -- ---- the turns up to a moment, and the inputs of the transaction in them
 
@@ -146,6 +152,12 @@ module _ (configs : Side → Config) (fair : IsFair configs) (turns : List Turn)
         (call_out.Command way.id (order.Start own_key way.call_id request there)) says_to).key_is
         ∙ cancel)
 
+    not_cancel : (m : List ℕ) → (m ≡ codes "CANCEL" → ⊥) → bytes_eq m (codes "CANCEL") ≡ false
+    not_cancel m other =
+        by_bool (bytes_eq m (codes "CANCEL"))
+        (λ is. absurd (other ((bytes_eq-Decides m (codes "CANCEL")).0 is)))
+        (λ none. none)
+
     -- if it came to the other side by the moment, it came up there
     arrives_by : GivenThere configs fair front_to carried_to keep_to s (come_from config.local request)
         → ArrivesBy configs turns s request moment
@@ -159,6 +171,11 @@ module _ (configs : Side → Config) (fair : IsFair configs) (turns : List Turn)
           in_time = parts_to.early;
           up = one.up;
           comes = one.handed;
+          told = told_or_answered (configs (peer s)) (rounds_of (peer s) front_to)
+              (fair.calls (peer s)) as_it_comes.call_id one.up as_it_comes one.handed.reply_to
+              (not_cancel as_it_comes.cseq.method
+              (λ cancel. own_method (sym one.method ∙ cancel))) refl one.handed.kind_is
+              one.handed.comes;
         }
 
   -- ---- up to the last repeat
@@ -225,6 +242,7 @@ module _ (configs : Side → Config) (fair : IsFair configs) (turns : List Turn)
           came.front came.in_time;
       up = came.up;
       comes = came.comes;
+      told = came.told;
     }
 
     ended_by : (moment : ℕ) (input : Option Input)

@@ -163,6 +163,7 @@ module _ (configs : Side → Config) (fair : IsFair configs) (turns : List Turn)
   pub record IsUp : Type 0 where
     pub up : AnUp
     pub handed : IsHandedUp (configs other) rounds as_it_comes up
+    pub method : as_it_comes.cseq.method ≡ request.cseq.method
 
   module _ (key : Key) (key_is : key_of_message as_it_comes ≡ key) (up : AnUp) where
     of_kind : (k : UpKind) → up.kind ≡ k → is_request_kind k ≡ true
@@ -180,6 +181,7 @@ module _ (configs : Side → Config) (fair : IsFair configs) (turns : List Turn)
             comes = subst (λ of. ComesUp (configs other) rounds of up)
                 (sym call ∙ ap (λ (m : Message). m.call_id) same) comes;
           };
+          method = stamped_same.method;
         }
     of_kind (kind.Ack message) is asks came method keyed call comes = absurd (false≢true asks)
     of_kind (kind.Response message) is asks came method keyed call comes =

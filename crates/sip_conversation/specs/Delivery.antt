@@ -1,6 +1,6 @@
 -- That a request arrives: over a network that delivers one of several copies of a datagram, between
 -- agents that run in time.
-use Rattle.std.specs.Prelude.{◌≡◌, ℕ, suc, ◌+◌, ◌≤◌, ◌<◌, Bool, true, false, ◌&&◌, List, [], ◌∷◌, ◌++◌, Contains, Option, None, Some, codes, count_by, drop, length}
+use Rattle.std.specs.Prelude.{◌≡◌, ℕ, suc, ◌+◌, ◌≤◌, ◌<◌, ◌⊎◌, Bool, true, false, ◌&&◌, ◌||◌, ◌==◌, List, [], ◌∷◌, ◌++◌, Contains, Option, None, Some, codes, count_by, drop, length}
 use Rattle.std.specs.List.{AllByRecursion, list_any}
 use Rattle.std.specs.Str.{bytes_eq}
 use Rattle.sip_message.specs.declared.addr.Addr.{Addr}
@@ -8,24 +8,31 @@ use Rattle.sip_message.specs.declared.id.Id.{Id}
 use Rattle.sip_message.specs.declared.key.Key.{Key}
 use Rattle.sip_message.specs.declared.key.Key.TheVariants as key
 use Rattle.sip_message.specs.declared.message.Message.{Message}
+use Rattle.sip_message.specs.declared.start_line.StartLine.TheVariants.{Response}
+use Rattle.sip_message.specs.Party.{tag_of}
 use Rattle.sip_message.specs.Written.{written}
 use Rattle.sip_timers.specs.declared.estimate.TheConstants.{LIFETIME as 64*T1}
 use Rattle.keyed_machine.specs.Machine.{Timed, given_at, state_after}
+use Rattle.sip_transactions.specs.declared.input.Command.TheVariants as order
 use Rattle.sip_transactions.specs.declared.input.Input.{Input}
 use Rattle.sip_transactions.specs.declared.input.Input.TheVariants.{Receive, Start, Answer, Failed, Abandon}
 use Rattle.sip_transactions.specs.declared.output.Up.{Up}
 use Rattle.sip_transactions.specs.Machine.{transaction_machine}
+use Rattle.sip_held_dialogs.specs.Requests.{is_bye, is_prack}
+use Rattle.sip_user.specs.declared.item.CallOut.TheVariants.{Command}
+use Rattle.sip_user.specs.declared.notice.Notice.TheVariants as notice
 use Rattle.sip_round.specs.declared.config.Config.{Config}
 use Rattle.sip_round.specs.declared.output.Output.{Output}
 use Rattle.sip_round.specs.declared.output.Output.TheVariants as output
 use Rattle.sip_round.specs.declared.round.Event.TheVariants.{Datagram}
+use Rattle.sip_round.specs.declared.round.Round.{Round}
 use Rattle.sip_round.specs.Answers.{answers}
 use Rattle.sip_round.specs.Given.{all_given}
 use Rattle.sip_round.specs.Laws.{inputs_of}
 use Rattle.sip_conversation.specs.Answers.{IsHandedUp}
 use Rattle.sip_conversation.specs.Conversation.{Side, Turn, peer, rounds_of}
 use Rattle.sip_conversation.specs.Copies.{TicksInTime, is_address, latest_repeat, pace_of}
-use Rattle.sip_conversation.specs.Messages.{come_from}
+use Rattle.sip_conversation.specs.Messages.{CallSays, come_from}
 use Rattle.sip_conversation.specs.Replies.{AreCounted}
 
 -- ---- the premises
@@ -120,8 +127,38 @@ pub record IsUnderWay (config : Config) (to : Addr) (side : Side) (turns : List 
   pub short : length (written request) ≤ 65535
   pub kept : list_any (λ timed. is_lost timed.input) after ≡ false
 
+-- the final responses that an agent gives by itself: 420 to an unknown option (RFC 3261, section
+-- 8.2.2.3), 481 without the dialog, or 500 in it (12.2.2), 482 (8.2.2.2), and a PRACK's (RFC 3262,
+-- section 3)
+abbrev pub is_own_status : Message → ℕ → Bool
+is_own_status request status =
+    (status == 420) || (status == 481) || (status == 482) || (status == 500)
+    || ((status == 200) && is_prack request)
+
+module _ (config : Config) (rounds : List Round) (request : Message) (id : Id) where
+  -- in these rounds the user is told of the request, under this id; and of the end of a dialog of
+  -- its call, if it is a BYE (RFC 3261, section 15.1.2)
+  pub record IsTold : Type 0 where
+    pub tag : List ℕ
+    pub told : Contains (all_given (answers config rounds))
+        (output.Notice (notice.Request request.call_id id request.cseq.method tag
+        (tag_of request.from) request.body))
+    pub ends : is_bye request ≡ true → (local_tag : List ℕ) × (remote_tag : List ℕ)
+        × Contains (all_given (answers config rounds))
+        (output.Notice (notice.Ended request.call_id local_tag remote_tag))
+
+  -- or the agent gives the final response itself
+  pub record IsAnsweredThere : Type 0 where
+    pub status : ℕ
+    pub reason : List ℕ
+    pub response : Message
+    pub key : Key
+    pub sent : CallSays config rounds (Command id (order.Answer key response))
+    pub starts : response.start ≡ Response status reason
+    pub own : is_own_status request status ≡ true
+
 -- In turns up to this moment the request came up to the call of its Call-ID at the other side, as it
--- was sent, except for the stamp. (Its transaction there answers repeats that come later.)
+-- was sent, except for the stamp; and the user there was told, or the agent answered it by itself.
 pub record ArrivesBy (configs : Side → Config) (turns : List Turn) (side : Side)
     (request : Message) (moment : ℕ) : Type 0 where
   pub front : List Turn
@@ -131,6 +168,10 @@ pub record ArrivesBy (configs : Side → Config) (turns : List Turn) (side : Sid
   pub up : Up
   pub comes : IsHandedUp (configs (peer side)) (rounds_of (peer side) front)
       (come_from (configs side).local request) up
+  pub told : IsTold (configs (peer side)) (rounds_of (peer side) front)
+      (come_from (configs side).local request) up.id
+      ⊎ IsAnsweredThere (configs (peer side)) (rounds_of (peer side) front)
+      (come_from (configs side).local request) up.id
 
 -- the turns of a side go on after this moment
 pub record RunsAfter (side : Side) (moment : ℕ) (turns : List Turn) : Type 0 where
