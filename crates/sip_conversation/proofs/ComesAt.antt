@@ -1,8 +1,7 @@
 -- What arrives in a round is given to its transaction; so is a request whose text comes.
-use Rattle.std.proofs.Common.{◌≡◌, ⊎_elim, ℕ, suc, ◌<◌, ◌≤◌, Bool, true, false, ◌&&◌, List, [], ◌∷◌, ◌++◌, map, length, refl, sym, ap, ◌∙◌, subst, arith}
-use Rattle.std.specs.Prelude.{Contains, Option, None, Some, Result, Ok, Err, filter, if◌then◌else◌, not}
+use Rattle.std.proofs.Common.{◌≡◌, ⊎_elim, ℕ, suc, ◌≤◌, true, ◌&&◌, List, [], ◌∷◌, ◌++◌, length, sym, ap, ◌∙◌, subst, arith}
+use Rattle.std.specs.Prelude.{Contains, None, Some, Ok, filter, if◌then◌else◌, not}
 use Rattle.std.specs.BTreeMap.{is_at}
-use Rattle.std.specs.List.{flat_map}
 use Rattle.std.proofs.lemmas.List.Elements.{Contains-append_left, Contains-append_right}
 use Rattle.sip_message.specs.declared.addr.Addr.{Addr}
 use Rattle.sip_message.specs.declared.id.Id.{Id}
@@ -31,7 +30,6 @@ use Rattle.sip_round.specs.declared.round.Round.{Round}
 use Rattle.sip_round.specs.Answers.{Past, arrivals, first, no_past, past_after, past_of, third}
 use Rattle.sip_round.specs.Arrivals.{Arrival, arrival_for, arrival_of, arrivals_from, datagram_arrival, message_arrival}
 use Rattle.sip_round.specs.Arrivals as arrival
-use Rattle.sip_round.specs.Laws.{inputs_of}
 use Rattle.sip_round.specs.Phases.{transaction_item, transaction_items}
 use Rattle.sip_conversation.specs.Messages.{IsGiven, come_from}
 use Rattle.sip_conversation.proofs.Among.{among_first, among_kept, first_or_later, mapped_among, none_among}

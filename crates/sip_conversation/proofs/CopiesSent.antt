@@ -1,8 +1,7 @@
 -- What a transaction sends to an address is among what its agent sends there.
-use Rattle.std.proofs.Common.{◌≡◌, ℕ, ◌+◌, ◌≤◌, Bool, true, false, cond, ◌&&◌, List, [], ◌∷◌, ◌++◌, refl, sym, ap, ◌∙◌, subst, arith, append_assoc}
-use Rattle.std.specs.Prelude.{Option, None, Some, count_by, filter}
+use Rattle.std.proofs.Common.{◌≡◌, ℕ, ◌+◌, ◌≤◌, Bool, true, false, cond, List, [], ◌∷◌, ◌++◌, refl, sym, ap, ◌∙◌, subst, arith, append_assoc}
+use Rattle.std.specs.Prelude.{Option, None, count_by, filter}
 use Rattle.std.specs.List.{flat_map}
-use Rattle.std.specs.Str.{bytes_eq}
 use Rattle.std.proofs.lemmas.List.Sums.{sum_by-append}
 use Rattle.sip_message.specs.declared.addr.Addr.{Addr}
 use Rattle.sip_message.specs.declared.key.Key.{Key}
@@ -18,11 +17,11 @@ use Rattle.sip_round.specs.declared.config.Config.{Config}
 use Rattle.sip_round.specs.declared.output.Output.{Output}
 use Rattle.sip_round.specs.declared.round.Round.{Round}
 use Rattle.sip_round.specs.Answers.{answers, past_of}
-use Rattle.sip_round.specs.Given.{all_given, is_send_with, send_in, sends_with}
+use Rattle.sip_round.specs.Given.{all_given, is_send_with, send_in}
 use Rattle.sip_round.specs.Laws.{inputs_of, said_of}
 use Rattle.sip_round.proofs.GivenSends.{sends_given}
 use Rattle.sip_round.proofs.Said.{transaction_alone}
-use Rattle.sip_conversation.specs.Copies.{copies, is_address, is_copy}
+use Rattle.sip_conversation.specs.Copies.{copies, is_copy}
 use Rattle.sip_conversation.specs.Delivery.{is_sent}
 
 -- the outputs to inputs after others

@@ -1,6 +1,6 @@
 -- A server that is given a request hands one up: this one, or the one that began its life.
 use Rattle.std.proofs.Common.{◌≡◌, ⊎_elim, ◌⊎◌, inl, inr, ℕ, ◌+◌, ◌≤◌, Bool, true, false, cond, List, [], ◌∷◌, ◌++◌, refl, sym, ap, ◌∙◌, subst, arith, codes, append_assoc}
-use Rattle.std.specs.Prelude.{Contains, Option, None, Some, IsSome, option_and_then}
+use Rattle.std.specs.Prelude.{Contains, Option, None, Some, IsSome}
 use Rattle.std.proofs.lemmas.Bool.{false≢true}
 use Rattle.std.proofs.lemmas.List.Elements.{Contains-append_left, Contains-append_right}
 use Rattle.std.proofs.lemmas.List.Sums.{sum_by-append}
@@ -9,7 +9,7 @@ use Rattle.sip_message.specs.declared.id.Id.{Id}
 use Rattle.sip_message.specs.declared.key.Key.{Key}
 use Rattle.sip_message.specs.declared.key.Key.TheVariants as key
 use Rattle.sip_message.specs.declared.message.Message.{Message}
-use Rattle.keyed_machine.specs.Machine.{Machine, Timed, given_at, outputs_from, state_from}
+use Rattle.keyed_machine.specs.Machine.{Timed, given_at, outputs_from, state_from}
 use Rattle.keyed_machine.proofs.Ordered.{by_bool}
 use Rattle.keyed_machine.proofs.Phases.{state_from-append}
 use Rattle.sip_transactions.specs.declared.input.Input.{Input}
@@ -23,14 +23,12 @@ use Rattle.sip_transactions.specs.declared.state.Role.{Role}
 use Rattle.sip_transactions.specs.declared.state.Role.TheVariants as role
 use Rattle.sip_transactions.specs.declared.state.State.{State}
 use Rattle.sip_transactions.specs.declared.state.State.TheVariants.{Calling, Trying, Proceeding, Completed, Accepted, Confirmed}
-use Rattle.sip_transactions.specs.declared.trigger.Trigger.{Trigger}
 use Rattle.sip_transactions.specs.declared.trigger.Trigger.TheVariants as on
 use Rattle.sip_transactions.specs.Laws.{IsServer, is_request_kind, is_request_up, requests_in}
 use Rattle.sip_transactions.specs.Machine.{transaction_machine}
-use Rattle.sip_transactions.specs.Rows.{row_of, rows_of}
 use Rattle.sip_transactions.specs.Steps.Input.{arrival_of, is_same_method, role_of}
 use Rattle.sip_transactions.specs.Steps.Life.{begun, life_after, step_for, step_machine, stepped}
-use Rattle.sip_transactions.specs.Steps.Output.{made_of, outputs_of}
+use Rattle.sip_transactions.specs.Steps.Output.{made_of}
 use Rattle.sip_transactions.proofs.OneRequest.{first_once}
 use Rattle.sip_transactions.proofs.Rules.{at_steps}
 use Rattle.sip_conversation.proofs.Among.{among_first, among_later}

@@ -1,9 +1,9 @@
 -- A request that isn't answered goes out at each moment of timer A or E.
-use Rattle.std.proofs.Common.{◌≡◌, ◌⊎◌, inl, inr, ℕ, zero, suc, ◌+◌, ◌<◌, ◌≤◌, Bool, true, false, cond, ◌&&◌, ◌||◌, ◌==◌, List, [], ◌∷◌, ◌++◌, refl, sym, ◌∙◌, ap, subst, arith, codes, zero-add}
+use Rattle.std.proofs.Common.{◌≡◌, ℕ, zero, suc, ◌+◌, ◌<◌, ◌≤◌, Bool, true, false, cond, ◌&&◌, ◌||◌, ◌==◌, List, [], ◌∷◌, ◌++◌, refl, sym, ◌∙◌, ap, subst, arith, codes, zero-add}
 use Rattle.std.specs.Prelude.{Option, None, Some, nat_le, not, option_and_then}
 use Rattle.std.specs.List.{list_any}
 use Rattle.std.specs.Str.{bytes_eq}
-use Rattle.std.proofs.lemmas.Bool.{false≢true, leb-true, leb-false}
+use Rattle.std.proofs.lemmas.Bool.{false≢true}
 use Rattle.std.proofs.lemmas.List.Sums.{sum_by-append}
 use Rattle.sip_message.specs.declared.addr.Addr.{Addr}
 use Rattle.sip_message.specs.declared.id.Id.{Id}
@@ -17,36 +17,31 @@ use Rattle.sip_message.specs.Written.{written}
 use Rattle.keyed_machine.specs.Machine.{Timed, given_at, outputs_from, tick_at}
 use Rattle.sip_transactions.specs.declared.input.Input.{Input}
 use Rattle.sip_transactions.specs.declared.input.Input.TheVariants.{Receive, Start, Answer, Failed, Abandon}
-use Rattle.sip_transactions.specs.declared.life.Context.{Context}
 use Rattle.sip_transactions.specs.declared.life.Life.{Life}
 use Rattle.sip_transactions.specs.declared.output.Out.{Out}
 use Rattle.sip_transactions.specs.declared.output.Out.TheVariants as out
 use Rattle.sip_transactions.specs.declared.state.Role.{Role}
 use Rattle.sip_transactions.specs.declared.state.Role.TheVariants as role
-use Rattle.sip_transactions.specs.declared.state.State.{State}
 use Rattle.sip_transactions.specs.declared.state.State.TheVariants.{Calling, Trying}
 use Rattle.sip_transactions.specs.declared.step.Pace.{Pace}
 use Rattle.sip_transactions.specs.declared.step.Pace.TheVariants.{Doubled, Capped}
 use Rattle.sip_transactions.specs.declared.step.Step.{Step}
-use Rattle.sip_transactions.specs.declared.trigger.Class.{Class}
 use Rattle.sip_transactions.specs.declared.trigger.Class.TheVariants as class
 use Rattle.sip_transactions.specs.declared.trigger.Trigger.{Trigger}
 use Rattle.sip_transactions.specs.declared.trigger.Trigger.TheVariants as on
 use Rattle.sip_transactions.specs.Rows.{row_of, rows_of}
 use Rattle.sip_transactions.specs.Rules.Timers.{interval}
-use Rattle.sip_transactions.specs.Steps.Input.{answer_of, arrival_of, class_of, is_same_method, role_of, trigger_of}
-use Rattle.sip_transactions.proofs.Rules.{at_steps}
+use Rattle.sip_transactions.specs.Steps.Input.{answer_of, arrival_of, class_of, is_same_method, role_of}
 use Rattle.sip_transactions.proofs.RowFacts.{by_test}
 use Rattle.sip_transactions.specs.Steps.Life.{acted_if, begun, context_of, life_after, state_of, step_for, step_machine, stepped}
 use Rattle.sip_transactions.specs.Steps.Output.{handed_out, made_of, outputs_of}
 use Rattle.sip_timers.specs.Earlier.{earlier}
-use Rattle.sip_transactions.specs.Machine.{life_due}
-use Rattle.std.specs.Prelude.{IfSome, min, nat_eq}
+use Rattle.std.specs.Prelude.{min}
 use native.Mathlib.Decide.{dec_le}
 use Rattle.std.proofs.Common.{◌-◌}
 use Rattle.std.proofs.lemmas.Slice.Eq.{bytes_eq-Decides}
 use Rattle.std.proofs.lemmas.Bool.Decides.{Decides-eqb}
-use Rattle.sip_conversation.specs.Copies.{EachRequestIsRepeated, IsInTime, TicksInTime, copies, ends_by, ends_wait, is_address, is_copy, is_invite, latest_repeat, pace_of}
+use Rattle.sip_conversation.specs.Copies.{EachRequestIsRepeated, TicksInTime, copies, ends_by, ends_wait, is_address, is_copy, is_invite, latest_repeat}
 
 -- ---- an input, by the table of a role
 

@@ -1,13 +1,12 @@
 -- A request that is under way arrives.
-use Rattle.std.proofs.Common.{◌≡◌, ⊎_elim, ℕ, suc, ◌+◌, ◌<◌, ◌≤◌, Bool, true, false, List, [], ◌∷◌, ◌++◌, length, refl, sym, ap, ◌∙◌, subst, arith, codes, append_assoc}
-use Rattle.std.specs.Prelude.{Contains, Option, None, Some, count_by}
+use Rattle.std.proofs.Common.{◌≡◌, ⊎_elim, ℕ, suc, ◌+◌, ◌<◌, ◌≤◌, true, false, List, [], ◌∷◌, ◌++◌, refl, sym, ap, ◌∙◌, subst, arith, codes, append_assoc}
+use Rattle.std.specs.Prelude.{Contains, Option, None, Some}
 use Rattle.std.specs.List.{AllByRecursion, list_any}
 use Rattle.std.specs.Str.{bytes_eq}
 use Rattle.std.proofs.lemmas.Slice.Eq.{bytes_eq-Decides}
 use Rattle.std.proofs.lemmas.Bool.{false≢true, leb-true}
-use Rattle.std.proofs.lemmas.List.Elements.{Contains-append_cases, Contains-append_left, Contains-append_right, Contains-push}
+use Rattle.std.proofs.lemmas.List.Elements.{Contains-append_cases, Contains-append_left, Contains-append_right}
 use Rattle.sip_message.specs.declared.addr.Addr.{Addr}
-use Rattle.sip_message.specs.declared.id.Id.{Id}
 use Rattle.sip_message.specs.declared.key.Key.{Key}
 use Rattle.sip_message.specs.declared.key.Key.TheVariants as key
 use Rattle.sip_message.specs.Key.{method_in}
@@ -17,23 +16,20 @@ use Rattle.sip_message.specs.MessageKey.{key_of_message}
 use Rattle.sip_message.specs.Rules.{IsMessage}
 use Rattle.sip_message.specs.Source.{answer_address}
 use Rattle.sip_message.specs.Written.{written}
-use Rattle.keyed_machine.specs.Machine.{Timed, given_at, outputs_from, state_from, tick_at}
+use Rattle.keyed_machine.specs.Machine.{Timed, given_at, outputs_from, tick_at}
 use Rattle.keyed_machine.proofs.Ordered.{by_bool}
 use Rattle.sip_transactions.specs.declared.input.Command.TheVariants as order
 use Rattle.sip_transactions.specs.declared.input.Input.{Input}
 use Rattle.sip_transactions.specs.declared.input.Input.TheVariants.{Abandon, Answer, Failed, Receive, Start}
 use Rattle.sip_transactions.specs.Machine.{transaction_machine}
 use Rattle.sip_transactions.proofs.Rules.{at_steps}
-use Rattle.sip_user.specs.declared.item.CallOut.{CallOut}
 use Rattle.sip_user.specs.declared.item.CallOut.TheVariants as call_out
 use Rattle.sip_round.specs.declared.config.Config.{Config}
 use Rattle.sip_round.specs.declared.round.Round.{Round}
-use Rattle.sip_round.specs.Answers.{answers}
-use Rattle.sip_round.specs.Given.{all_given}
 use Rattle.sip_round.specs.Laws.{inputs_of}
 use Rattle.sip_conversation.specs.Conversation.{Carried, Side, Turn, peer, rounds_of}
 use Rattle.sip_conversation.specs.Copies.{EachRequestIsRepeated, TicksInTime, copies, ends_by, ends_wait, latest_repeat, pace_of}
-use Rattle.sip_conversation.specs.Delivery.{ArrivesBy, Delivers, GoesOn, IsDelivered, IsUnderWay, OneIsDelivered, RequestsArrive, RunInTime, RunsAfter, ShareAClock, copies_sent, is_lost, is_sent}
+use Rattle.sip_conversation.specs.Delivery.{ArrivesBy, Delivers, GoesOn, IsUnderWay, OneIsDelivered, RunInTime, RunsAfter, ShareAClock, copies_sent, is_lost}
 use Rattle.sip_conversation.specs.Messages.{CallSays, CallsKeepRules, IsGiven, come_from}
 use Rattle.sip_conversation.specs.Replies.{AreCounted}
 use Rattle.sip_conversation.specs.Steps.Fair.{IsFair}
@@ -45,7 +41,7 @@ use Rattle.sip_conversation.proofs.Longer.{rounds_of-append}
 use Rattle.sip_conversation.proofs.OftenSent as often
 use Rattle.sip_conversation.proofs.OneCallId.{out_replies}
 use Rattle.sip_conversation.proofs.RoundInputs.{BeginsWithTick, begins_with_tick, inputs-append, inputs_after, inputs_after_at, inputs_at}
-use Rattle.sip_conversation.proofs.UpTo.{InputBy, InputLater, IsBy, IsFirst, IsLater, Parted, StandsEarly, by_its_moment, each_not, has_first, in_time_after, in_time_first, own_round, parted, rounds_at, some_one, stands_at, stands_early}
+use Rattle.sip_conversation.proofs.UpTo.{InputBy, IsBy, IsFirst, IsLater, Parted, StandsEarly, each_not, has_first, in_time_after, in_time_first, own_round, parted, rounds_at, some_one, stands_early}
 use Rattle.sip_conversation.proofs.RequestsAsked.{out_own}
 use Rattle.sip_conversation.proofs.SameRequest.{handed_up}
 use Rattle.sip_conversation.proofs.ToldOrAnswered.{told_or_answered}

@@ -1,19 +1,17 @@
 -- A request that comes to a transaction comes up to the call of its Call-ID, once it has come: what
 -- the transaction hands up is this request.
-use Rattle.std.proofs.Common.{◌≡◌, ℕ, Bool, true, false, cond, List, [], refl, sym, ap, ◌∙◌, subst, arith, codes}
+use Rattle.std.proofs.Common.{◌≡◌, ℕ, true, false, cond, List, [], refl, sym, ap, ◌∙◌, subst, codes}
 use Rattle.std.specs.Prelude.{Contains, None, if◌then◌else◌}
-use Rattle.std.specs.List.{AllByRecursion}
 use Rattle.std.specs.Str.{bytes_eq}
 use Rattle.std.proofs.lemmas.Bool.{false≢true}
 use Rattle.std.proofs.lemmas.Slice.Eq.{bytes_eq-Decides}
 use Rattle.sip_message.specs.declared.addr.Addr.{Addr}
 use Rattle.sip_message.specs.declared.id.Id.{Id}
 use Rattle.sip_message.specs.declared.key.Key.{Key}
-use Rattle.sip_message.specs.declared.key.Key.TheVariants as key
 use Rattle.sip_message.specs.declared.message.Message.{Message}
 use Rattle.sip_message.specs.declared.start_line.StartLine.{StartLine}
 use Rattle.sip_message.specs.declared.start_line.StartLine.TheVariants as start
-use Rattle.sip_message.specs.Key.{branch_in, method_in, side_of}
+use Rattle.sip_message.specs.Key.{branch_in, method_in}
 use Rattle.sip_message.specs.Message.{is_request_line, is_request_message}
 use Rattle.sip_message.specs.MessageKey.{key_at, key_of_message, transaction_method}
 use Rattle.sip_message.specs.Source.{stamped}
@@ -36,7 +34,7 @@ use Rattle.sip_user.specs.declared.item.Item.TheVariants.{Up}
 use Rattle.sip_round.specs.declared.config.Config.{Config}
 use Rattle.sip_round.specs.declared.round.Round.{Round}
 use Rattle.sip_round.specs.Answers.{past_of}
-use Rattle.sip_round.specs.Laws.{call_inputs_of, inputs_of, said_of}
+use Rattle.sip_round.specs.Laws.{call_inputs_of, inputs_of}
 use Rattle.sip_round.proofs.Said.{transaction_alone}
 use Rattle.sip_conversation.specs.Answers.{IsHandedUp}
 use Rattle.sip_conversation.specs.Conversation.{Carried, Side, Turn, peer, rounds_of}
@@ -45,7 +43,7 @@ use Rattle.sip_conversation.specs.Replies.{AreCounted}
 use Rattle.sip_conversation.specs.Steps.Fair.{IsFair}
 use Rattle.sip_conversation.proofs.Among.{each_of}
 use Rattle.sip_conversation.proofs.ComesUp.{comes_up}
-use Rattle.sip_conversation.proofs.HandedUp.{HasUp, request_handed}
+use Rattle.sip_conversation.proofs.HandedUp.{request_handed}
 use Rattle.sip_conversation.proofs.HeardUps.{InputHeard, IsHeard, all_heard}
 use Rattle.sip_conversation.proofs.OneCallId.{lower}
 use Rattle.sip_conversation.proofs.OneOrigin.{IsStartedHere, one_request, said_starts}

@@ -1,7 +1,7 @@
 -- A request that comes up to a call is told to the user, or the agent answers it by itself.
-use Rattle.std.proofs.Common.{◌≡◌, ◌⊎◌, inl, inr, ⊎_elim, ℕ, Bool, true, false, List, [], ◌∷◌, ◌++◌, refl, sym, ap, ◌∙◌, subst, cond}
-use Rattle.std.specs.Prelude.{◌==◌, ◌&&◌, ◌||◌, Contains, Option, None, Some, codes, find, is_none, not, reverse, if◌then◌else◌}
-use Rattle.std.specs.List.{list_any, flat_map}
+use Rattle.std.proofs.Common.{◌≡◌, ◌⊎◌, inl, inr, ⊎_elim, ℕ, Bool, true, false, List, [], ◌∷◌, refl, sym, ap, ◌∙◌, subst, cond}
+use Rattle.std.specs.Prelude.{◌&&◌, ◌||◌, Contains, Option, None, Some, codes, find, not, if◌then◌else◌}
+use Rattle.std.specs.List.{list_any}
 use Rattle.std.specs.Option.{option_map_or}
 use Rattle.std.specs.Map.{lookup, set_value}
 use Rattle.std.proofs.lemmas.Bool.{false≢true}
@@ -26,10 +26,10 @@ use Rattle.sip_user.specs.declared.notice.Notice.TheVariants.{Ended, Request}
 use Rattle.sip_held_dialogs.specs.declared.held_dialog.DialogId.{DialogId}
 use Rattle.sip_held_dialogs.specs.declared.held_dialog.HeldDialog.{HeldDialog}
 use Rattle.sip_held_dialogs.specs.Dialogs.{Dialogs, dialog_at, dialog_changed, ended_at, ended_notice, is_dialog_id, tag_text}
-use Rattle.sip_held_dialogs.specs.Requests.{dialog_id_of, has_to_tag, is_bye, is_cancel, is_invite, is_prack, is_unknown_option, local_tag_of}
+use Rattle.sip_held_dialogs.specs.Requests.{dialog_id_of, has_to_tag, is_bye, is_cancel, is_prack, is_unknown_option, local_tag_of}
 use Rattle.sip_served.specs.declared.arrival.Arrival.{Arrival}
 use Rattle.sip_served.specs.declared.held_request.HeldRequest.{HeldRequest}
-use Rattle.sip_served.specs.Rules.Arrivals.{after_request, cancel_for, is_above, is_merged, is_named_by, is_same_branch, no_such_call, prack_for, prack_received, request_for_user, request_in_dialog, request_received}
+use Rattle.sip_served.specs.Rules.Arrivals.{after_request, is_above, is_merged, is_named_by, no_such_call, prack_for, prack_received, request_for_user, request_in_dialog, request_received}
 use Rattle.sip_served.specs.State.{State, ServedTaken}
 use Rattle.sip_calls.specs.declared.call.Call.{Call}
 use Rattle.sip_calls.specs.declared.calls.Calls.{Calls}

@@ -1,6 +1,6 @@
 -- A request to which a response came has come to the other side.
-use Rattle.std.proofs.Common.{◌≡◌, ℕ, Bool, true, false, List, [], ◌∷◌, ◌++◌, refl, sym, ap, ◌∙◌, subst, codes, append-nil}
-use Rattle.std.specs.Prelude.{Contains, None, Some, not}
+use Rattle.std.proofs.Common.{◌≡◌, ℕ, true, List, [], refl, sym, ap, ◌∙◌, subst, codes, append-nil}
+use Rattle.std.specs.Prelude.{None, Some, not}
 use Rattle.std.specs.List.{AllByRecursion, slice_get}
 use Rattle.std.specs.Option.{option_map_or}
 use Rattle.sip_message.specs.declared.addr.Addr.{Addr}
@@ -14,10 +14,9 @@ use Rattle.sip_message.specs.declared.via.Via.{Via}
 use Rattle.sip_message.specs.Key.{client_key, method_in}
 use Rattle.sip_message.specs.Message.{is_request_line, is_request_message}
 use Rattle.sip_message.specs.MessageKey.{key_of_message}
-use Rattle.sip_message.specs.Rules.{IsMessage}
 use Rattle.sip_message.specs.TopVia.{top_branch}
 use Rattle.sip_message.specs.Via.{branch_of}
-use Rattle.keyed_machine.specs.Machine.{given_at, outputs_from, tick_at}
+use Rattle.keyed_machine.specs.Machine.{given_at, outputs_from}
 use Rattle.sip_clients.specs.Clients.{status_of}
 use Rattle.sip_transactions.specs.declared.input.Command.TheVariants as order
 use Rattle.sip_transactions.specs.declared.input.Input.{Input}
@@ -33,7 +32,6 @@ use Rattle.sip_round.specs.Answers.{no_past, past_of}
 use Rattle.sip_round.specs.Arrivals.{arrival_of}
 use Rattle.sip_round.specs.Laws.{inputs_of, said_of}
 use Rattle.sip_round.proofs.Said.{transaction_alone}
-use Rattle.sip_conversation.specs.Answers.{AnswersARequest}
 use Rattle.sip_conversation.specs.Conversation.{Carried, Side, Turn, peer, rounds_of}
 use Rattle.sip_conversation.specs.Messages.{CallSays, CallsKeepRules, ComesUnchanged, IsGiven, IsSaid, come_from}
 use Rattle.sip_conversation.specs.Replies.{AreCounted}
@@ -41,7 +39,7 @@ use Rattle.sip_conversation.specs.Steps.Fair.{IsFair}
 use Rattle.sip_conversation.proofs.Among.{all_go, all_of, each_of}
 use Rattle.sip_conversation.proofs.Answered.{AllCame, IsAnswer, answered}
 use Rattle.sip_conversation.proofs.Bridge.{any_arrival}
-use Rattle.sip_conversation.proofs.OneCallId.{one_start_of, out_replies}
+use Rattle.sip_conversation.proofs.OneCallId.{one_start_of}
 use Rattle.sip_conversation.proofs.OneTransaction.{IsFaithful, faithful}
 use Rattle.sip_conversation.proofs.Rounds.{ArrivalFits, OutFits, RoundFits, TimedFits, call_says, calls_give, inputs_fit}
 use Rattle.sip_conversation.proofs.StartedFor.{has_key, response_key}
