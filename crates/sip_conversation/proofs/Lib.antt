@@ -93,4 +93,6 @@ pub mod HandedUp
 pub mod ComesUp
 pub mod SameRequest
 pub mod ToldOrAnswered
+pub mod FirstStart
+pub mod Begun
 pub mod RequestsArrive

@@ -56,7 +56,7 @@ by_role role key held now input trigger =
     by_row role key held now input (option_and_then (row_of (rows_of role) (state_of held)) trigger)
 
 -- the client of an INVITE, or of another request
-abbrev role_at : Bool → Role
+abbrev pub role_at : Bool → Role
 role_at invite = cond invite role.InviteClient role.Client
 
 abbrev pace_at : Bool → Pace

@@ -29,11 +29,12 @@ use Rattle.sip_round.specs.declared.round.Round.{Round}
 use Rattle.sip_round.specs.Laws.{inputs_of}
 use Rattle.sip_conversation.specs.Conversation.{Carried, Side, Turn, peer, rounds_of}
 use Rattle.sip_conversation.specs.Copies.{EachRequestIsRepeated, TicksInTime, copies, ends_by, ends_wait, latest_repeat, pace_of}
-use Rattle.sip_conversation.specs.Delivery.{ArrivesBy, Delivers, GoesOn, IsUnderWay, OneIsDelivered, RunInTime, RunsAfter, ShareAClock, copies_sent, is_lost}
+use Rattle.sip_conversation.specs.Delivery.{ArrivesBy, Delivers, GoesOn, OneIsDelivered, RequestsArrive, RunInTime, RunsAfter, ShareAClock, copies_sent, is_lost}
 use Rattle.sip_conversation.specs.Messages.{CallSays, CallsKeepRules, IsGiven, come_from}
 use Rattle.sip_conversation.specs.Replies.{AreCounted}
 use Rattle.sip_conversation.specs.Steps.Fair.{IsFair}
 use Rattle.sip_conversation.proofs.Among.{all_go, among_first, among_later, each_of}
+use Rattle.sip_conversation.proofs.Begun.{IsBegun, begun, by_now, first_now}
 use Rattle.sip_conversation.proofs.ComesAt.{text_given}
 use Rattle.sip_conversation.proofs.CopiesSent.{later_copies, sent_at_least}
 use Rattle.sip_conversation.proofs.Fronts.{counted_front, front_carried, front_keeps}
@@ -47,12 +48,27 @@ use Rattle.sip_conversation.proofs.SameRequest.{handed_up}
 use Rattle.sip_conversation.proofs.ToldOrAnswered.{told_or_answered}
 use Rattle.sip_conversation.proofs.WasAnswered.{GivenThere, answered_came, start_said}
 
+-- what arrives by a moment arrives by a later one
+later_by : (configs : Side → Config) (turns : List Turn) (s : Side) (request : Message)
+    (early late : ℕ) → early ≤ late → ArrivesBy configs turns s request early
+    → ArrivesBy configs turns s request late
+later_by configs turns s request early late from came = record {
+  front = came.front;
+  rest = came.rest;
+  are = came.are;
+  in_time = all_go {P = IsBy early} {Q = IsBy late} (λ turn by. omega (arith, by, from)) came.front
+      came.in_time;
+  up = came.up;
+  comes = came.comes;
+  told = came.told;
+}
+
 module _ (configs : Side → Config) (fair : IsFair configs) (turns : List Turn)
     (carried : Carried configs turns) (keep : CallsKeepRules configs turns)
     (lag repeats delay : ℕ) (clock : ShareAClock turns) (runs : RunInTime configs lag turns)
     (delivers : Delivers configs (suc repeats) delay turns) (s : Side) (branch method : List ℕ)
     (now : ℕ) (request : Message) (no_cancel : method ≡ codes "CANCEL" → ⊥)
-    (way : IsUnderWay (configs s) (configs (peer s)).local s turns (key.Client branch method) now
+    (way : IsBegun (configs s) (configs (peer s)).local s turns (key.Client branch method) now
     request)
     (few : AreCounted (configs s) (rounds_of s turns)) where
   abbrev config : Config
@@ -229,18 +245,6 @@ module _ (configs : Side → Config) (fair : IsFair configs) (turns : List Turn)
         (subst (λ inputs. Contains inputs timed) (sym stands.after_are)
         (Contains-append_left waiting later timed among))) ∙ lost)
 
-    earlier : ArrivesBy configs turns s request (now + latest) → Arrives
-    earlier came = record {
-      front = came.front;
-      rest = came.rest;
-      are = came.are;
-      in_time = all_go {P = IsBy (now + latest)} {Q = IsBy last} (λ turn by. omega (arith, by))
-          came.front came.in_time;
-      up = came.up;
-      comes = came.comes;
-      told = came.told;
-    }
-
     ended_by : (moment : ℕ) (input : Option Input)
         → Contains waiting (record { moment = moment; input = input })
         → ends_by (now + 32000) moment input ≡ true → Arrives
@@ -252,7 +256,8 @@ module _ (configs : Side → Config) (fair : IsFair configs) (turns : List Turn)
         absurd (omega arith)
     ended_by moment (Some (Receive id response reply_to)) among ends =
         let heard = given_at moment (Receive id response reply_to) in
-        earlier (arrives_by (now + latest) start_by
+        later_by configs turns s request (now + latest) last (omega arith)
+        (arrives_by (now + latest) start_by
         (answered_came configs fair front (carried_to (now + latest) start_by)
         (keep_to (now + latest) start_by) s own_key way.id way.call_id request there
         (started_to (now + latest) start_by) id response reply_to
@@ -377,3 +382,20 @@ module _ (configs : Side → Config) (fair : IsFair configs) (turns : List Turn)
         (λ ends. let one = some_one (ends_wait (now + 32000)) waiting ends in
         ended_by one.one.moment one.one.input one.among one.passes)
         (λ none. one_comes (delivers [] front parts.rest parts.are s text (enough none) goes_on))
+
+-- ---- the law
+
+pub requests_arrive : (configs : Side → Config) (fair : IsFair configs) (turns : List Turn)
+    → Carried configs turns → CallsKeepRules configs turns → RequestsArrive configs turns
+requests_arrive configs fair turns carried keep lag repeats delay clock runs delivers s branch
+    method now request no_cancel way few soon on =
+    let first = first_now configs fair turns clock s branch method now request no_cancel way few in
+    let from : first ≤ now =
+    by_now configs fair turns clock s branch method now request no_cancel way few in
+    let last = latest_repeat (pace_of method) lag repeats + delay in
+    let after : now + last < (on.turn.round).moment = on.after in
+    later_by configs turns s request (first + last) (now + last) (omega arith)
+    (arrives configs fair turns carried keep lag repeats delay clock runs delivers s branch method
+    first request no_cancel
+    (begun configs fair turns clock s branch method now request no_cancel way few) few soon
+    (record { turn = on.turn; among = on.among; of = on.of; after = omega (arith, after, from) }))

@@ -251,93 +251,93 @@ fine_at calls state event up request reply_to no_cancel now is =
 
 module _ (config : Config) (rounds : List Round)
     (alone : EachKeyAlone call_cmp (call_machine (calls_of config)) tick_at) (call_id : List ℕ)
-    where
-  abbrev calls : Calls
-  calls = calls_of config
+  where
+    abbrev calls : Calls
+    calls = calls_of config
 
-  in_call : (now : ℕ) (event : Id) (up : AnUp)
-      → Contains (call_inputs_of config rounds call_id) (given_at now (event, Up up))
-      → (before : List (Timed CallItem)) × ((out : CallOut)
-      → Contains (call_step calls (call_from calls None before) (Some (event, Up up)) now).1 out
-      → Contains (said_of_call config rounds call_id) out)
-  in_call now event up among =
-      let timed : Timed CallItem = given_at now (event, Up up) in
-      let at = stands_at (call_inputs_of config rounds call_id) timed among in (
-        at.before,
-        λ out gives.
-            subst (λ outs. Contains outs out)
-            (sym (call_alone calls alone [] (past_of config rounds).calls call_id))
-            (subst (λ inputs. Contains (outputs_from (call_machine calls) call_id None inputs) out)
-            (sym at.are)
-            (out_of_one_input calls call_id at.before timed at.after out gives)),
-      )
+    in_call : (now : ℕ) (event : Id) (up : AnUp)
+        → Contains (call_inputs_of config rounds call_id) (given_at now (event, Up up))
+        → (before : List (Timed CallItem)) × ((out : CallOut)
+        → Contains (call_step calls (call_from calls None before) (Some (event, Up up)) now).1 out
+        → Contains (said_of_call config rounds call_id) out)
+    in_call now event up among =
+        let timed : Timed CallItem = given_at now (event, Up up) in
+        let at = stands_at (call_inputs_of config rounds call_id) timed among in (
+          at.before,
+          λ out gives.
+              subst (λ outs. Contains outs out)
+              (sym (call_alone calls alone [] (past_of config rounds).calls call_id))
+              (subst (λ inputs. Contains (outputs_from (call_machine calls) call_id None inputs) out)
+              (sym at.are)
+              (out_of_one_input calls call_id at.before timed at.after out gives)),
+        )
 
-  -- a notice of a call is given
-  record IsGivenTo (told : ANotice) : Type 0 where
-    given : Contains (all_given (answers_of config rounds)) (output.Notice told)
-    own : call_id ≡ call_of_notice told
+    -- a notice of a call is given
+    record IsGivenTo (told : ANotice) : Type 0 where
+      given : Contains (all_given (answers_of config rounds)) (output.Notice told)
+      own : call_id ≡ call_of_notice told
 
-  notice_given : (told : ANotice) → Contains (said_of_call config rounds call_id) (Notice told)
-      → IsGivenTo told
-  notice_given told among =
-      let kept = kept_among (is_notice_of call_id) (all_given (answers_of config rounds))
-      (output.Notice told)
-      (subst (λ outs. Contains outs (output.Notice told)) (sym (notices_given config rounds call_id))
-      (in_all_of notice_in (said_of_call config rounds call_id) (Notice told) (output.Notice told)
-      among (among_first (output.Notice told) []))) in
-      record {
-        given = kept.0;
-        own = exact_at nat_list_cmp_total exact_bytes call_id (call_of_notice told) kept.1;
-      }
-
-  module _ (up : AnUp) (request : Message) (reply_to : Addr)
-      (no_cancel : is_cancel request ≡ false) (call_is : request.call_id ≡ call_id) where
-    tells : (tag : List ℕ) (outs : List CallOut)
-        → ((out : CallOut) → Contains outs out → Contains (said_of_call config rounds call_id) out)
-        → TellsUser up request reply_to tag no_cancel outs → IsTold config rounds request up.id
-    tells tag outs said user =
-        let told = notice_given (Request up.call_id up.id request.cseq.method tag
-        (tag_of request.from) request.body) (said _ user.told) in
+    notice_given : (told : ANotice) → Contains (said_of_call config rounds call_id) (Notice told)
+        → IsGivenTo told
+    notice_given told among =
+        let kept = kept_among (is_notice_of call_id) (all_given (answers_of config rounds))
+        (output.Notice told)
+        (subst (λ outs. Contains outs (output.Notice told)) (sym (notices_given config rounds call_id))
+        (in_all_of notice_in (said_of_call config rounds call_id) (Notice told) (output.Notice told)
+        among (among_first (output.Notice told) []))) in
         record {
-          tag = tag;
-          told = subst (λ (of : List ℕ). Contains (all_given (answers_of config rounds))
-              (output.Notice (Request of up.id request.cseq.method tag (tag_of request.from)
-              request.body))) (sym told.own ∙ sym call_is) told.given;
-          ends = λ bye.
-              let held = user.ends bye in
-              let dialog = (held.0).dialog in
-              let ended = notice_given (Ended dialog.call_id (tag_text dialog.local.tag)
-              (tag_text dialog.remote.tag)) (said (ended_notice held.0) held.1) in (
-                tag_text dialog.local.tag,
-                tag_text dialog.remote.tag,
-                subst (λ (of : List ℕ). Contains (all_given (answers_of config rounds))
-                    (output.Notice (Ended of (tag_text dialog.local.tag)
-                    (tag_text dialog.remote.tag)))) (sym ended.own ∙ sym call_is) ended.given,
-              );
+          given = kept.0;
+          own = exact_at nat_list_cmp_total exact_bytes call_id (call_of_notice told) kept.1;
         }
 
-    responds : (tag : List ℕ) (outs : List CallOut)
-        → ((out : CallOut) → Contains outs out → Contains (said_of_call config rounds call_id) out)
-        → Answers up request reply_to tag no_cancel outs
-        → IsAnsweredThere config rounds request up.id
-    responds tag outs said answer = record {
-      status = answer.status;
-      reason = answer.reason;
-      response = answer.response;
-      key = up.key;
-      sent = (call_id, said (Command up.id (Answer up.key answer.response)) answer.sent);
-      starts = answer.starts;
-      own = answer.own;
-    }
+    module _ (up : AnUp) (request : Message) (reply_to : Addr)
+        (no_cancel : is_cancel request ≡ false) (call_is : request.call_id ≡ call_id) where
+      tells : (tag : List ℕ) (outs : List CallOut)
+          → ((out : CallOut) → Contains outs out → Contains (said_of_call config rounds call_id) out)
+          → TellsUser up request reply_to tag no_cancel outs → IsTold config rounds request up.id
+      tells tag outs said user =
+          let told = notice_given (Request up.call_id up.id request.cseq.method tag
+          (tag_of request.from) request.body) (said _ user.told) in
+          record {
+            tag = tag;
+            told = subst (λ (of : List ℕ). Contains (all_given (answers_of config rounds))
+                (output.Notice (Request of up.id request.cseq.method tag (tag_of request.from)
+                request.body))) (sym told.own ∙ sym call_is) told.given;
+            ends = λ bye.
+                let held = user.ends bye in
+                let dialog = (held.0).dialog in
+                let ended = notice_given (Ended dialog.call_id (tag_text dialog.local.tag)
+                (tag_text dialog.remote.tag)) (said (ended_notice held.0) held.1) in (
+                  tag_text dialog.local.tag,
+                  tag_text dialog.remote.tag,
+                  subst (λ (of : List ℕ). Contains (all_given (answers_of config rounds))
+                      (output.Notice (Ended of (tag_text dialog.local.tag)
+                      (tag_text dialog.remote.tag)))) (sym ended.own ∙ sym call_is) ended.given,
+                );
+          }
 
-    -- the user is told of a request that comes up, or the agent answers it by itself
-    pub told_or_answered : up.kind ≡ kind.Request request reply_to
-        → ComesUp config rounds call_id up
-        → IsTold config rounds request up.id ⊎ IsAnsweredThere config rounds request up.id
-    told_or_answered is comes =
-        let own = in_call comes.0 comes.1 up comes.2 in
-        let state = call_from calls None own.0 in
-        let outs = (call_step calls state (Some (comes.1, Up up)) comes.0).1 in
-        let so = fine_at calls state comes.1 up request reply_to no_cancel comes.0 is in
-        ⊎_elim (λ user. inl (tells so.tag outs own.1 user))
-        (λ answer. inr (responds so.tag outs own.1 answer)) so.fine
+      responds : (tag : List ℕ) (outs : List CallOut)
+          → ((out : CallOut) → Contains outs out → Contains (said_of_call config rounds call_id) out)
+          → Answers up request reply_to tag no_cancel outs
+          → IsAnsweredThere config rounds request up.id
+      responds tag outs said answer = record {
+        status = answer.status;
+        reason = answer.reason;
+        response = answer.response;
+        key = up.key;
+        sent = (call_id, said (Command up.id (Answer up.key answer.response)) answer.sent);
+        starts = answer.starts;
+        own = answer.own;
+      }
+
+      -- the user is told of a request that comes up, or the agent answers it by itself
+      pub told_or_answered : up.kind ≡ kind.Request request reply_to
+          → ComesUp config rounds call_id up
+          → IsTold config rounds request up.id ⊎ IsAnsweredThere config rounds request up.id
+      told_or_answered is comes =
+          let own = in_call comes.0 comes.1 up comes.2 in
+          let state = call_from calls None own.0 in
+          let outs = (call_step calls state (Some (comes.1, Up up)) comes.0).1 in
+          let so = fine_at calls state comes.1 up request reply_to no_cancel comes.0 is in
+          ⊎_elim (λ user. inl (tells so.tag outs own.1 user))
+          (λ answer. inr (responds so.tag outs own.1 answer)) so.fine

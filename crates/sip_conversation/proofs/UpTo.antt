@@ -16,6 +16,7 @@ use Rattle.sip_conversation.specs.Conversation as side
 use Rattle.sip_conversation.specs.Copies.{TicksInTime}
 use Rattle.sip_conversation.specs.Delivery.{ShareAClock}
 use Rattle.sip_conversation.proofs.OftenSent.{or_false}
+use Rattle.sip_conversation.proofs.RoundInputs.{RoundsRise}
 use Rattle.sip_conversation.proofs.Among.{all_go, among_first, among_kept, among_later, first_or_later, mapped_among, none_among}
 
 -- ---- turns
@@ -60,20 +61,6 @@ parted moment (turn ∷ turns) clock =
       }
     ]
 
--- the turns up to one are by its moment
-pub by_its_moment : (front : List Turn) (turn : Turn) (later : List Turn)
-    → ShareAClock (front ++ turn ∷ later)
-    → AllByRecursion (IsBy (turn.round).moment) (front ++ turn ∷ [])
-by_its_moment [] turn later clock = (omega arith, tt)
-by_its_moment (first ∷ front) turn later clock =
-    (of_all front turn later clock.0, by_its_moment front turn later clock.1)
-  where
-    of_all : (front : List Turn) (turn : Turn) (later : List Turn)
-        → AllByRecursion (λ t. (first.round).moment ≤ (t.round).moment) (front ++ turn ∷ later)
-        → (first.round).moment ≤ (turn.round).moment
-    of_all [] turn later all = all.0
-    of_all (one ∷ front) turn later all = of_all front turn later all.1
-
 -- ---- the rounds of a side
 
 module _ (P : ℕ → Type 0) (s : Side) where
@@ -90,6 +77,22 @@ module _ (P : ℕ → Type 0) (s : Side) where
   rounds_at (turn ∷ turns) at =
       kept_at (is_side s turn.side) turn (filter (λ t. is_side s t.side) turns) at.0
       (rounds_at turns at.1)
+
+module _ (s : Side) where
+  kept_rise : (own : Bool) (turn : Turn) (kept : List Turn)
+      → AllByRecursion (λ (later : Round). (turn.round).moment ≤ later.moment)
+      (map (λ (t : Turn). t.round) kept)
+      → RoundsRise (map (λ (t : Turn). t.round) kept)
+      → RoundsRise (map (λ (t : Turn). t.round) (cond own (turn ∷ kept) kept))
+  kept_rise true turn kept later rise = (later, rise)
+  kept_rise false turn kept later rise = rise
+
+  -- so the moments of a side's rounds don't fall
+  pub rounds_rise : (turns : List Turn) → ShareAClock turns → RoundsRise (rounds_of s turns)
+  rounds_rise [] clock = tt
+  rounds_rise (turn ∷ turns) clock =
+      kept_rise (is_side s turn.side) turn (filter (λ t. is_side s t.side) turns)
+      (rounds_at (λ m. (turn.round).moment ≤ m) s turns clock.0) (rounds_rise turns clock.1)
 
 own_side : (s : Side) → is_side s s ≡ true
 own_side side.One = refl
@@ -129,6 +132,12 @@ stands_at (y ∷ ys) x among =
       are = ap (λ zs. y ∷ zs) rest.are;
     })
     (first_or_later y ys x among)
+
+pub any_later : {X : Type 0} (p : X → Bool) (before : List X) (x : X) (after : List X)
+    → list_any p (before ++ x ∷ after) ≡ false → list_any p after ≡ false
+any_later p [] x after none = (or_false (p x) (list_any p after) none).1
+any_later p (y ∷ before) x after none =
+    any_later p before x after (or_false (p y) (list_any p (before ++ x ∷ after)) none).1
 
 pub record IsAny {X : Type 0} (p : X → Bool) (xs : List X) : Type 0 where
   pub one : X

@@ -12,7 +12,7 @@ use Rattle.sip_message.specs.declared.start_line.StartLine.TheVariants.{Response
 use Rattle.sip_message.specs.Party.{tag_of}
 use Rattle.sip_message.specs.Written.{written}
 use Rattle.sip_timers.specs.declared.estimate.TheConstants.{LIFETIME as 64*T1}
-use Rattle.keyed_machine.specs.Machine.{Timed, given_at, state_after}
+use Rattle.keyed_machine.specs.Machine.{given_at}
 use Rattle.sip_transactions.specs.declared.input.Command.TheVariants as order
 use Rattle.sip_transactions.specs.declared.input.Input.{Input}
 use Rattle.sip_transactions.specs.declared.input.Input.TheVariants.{Receive, Start, Answer, Failed, Abandon}
@@ -112,20 +112,18 @@ is_lost (Some (Answer id message)) = false
 is_lost (Some (Failed id)) = true
 is_lost (Some Abandon) = true
 
--- At this moment a transaction of a side, of which nothing was held, was started with this request
--- to the other side, with a text of at most 65,535 bytes. In these turns the user doesn't give it
--- up, and no send of it is reported to have failed.
+-- At this moment a transaction of a side was started with this request to this address, with a text
+-- of at most 65,535 bytes. In these turns the user doesn't give it up, and no send of it is reported
+-- to have failed.
 pub record IsUnderWay (config : Config) (to : Addr) (side : Side) (turns : List Turn) (key : Key)
     (now : ℕ) (request : Message) : Type 0 where
-  pub before : List (Timed Input)
   pub id : Id
   pub call_id : List ℕ
-  pub after : List (Timed Input)
-  pub inputs_are : inputs_of config (rounds_of side turns) key
-      ≡ before ++ given_at now (Start id call_id request to) ∷ after
-  pub new : state_after transaction_machine key before ≡ None
+  pub started : Contains (inputs_of config (rounds_of side turns) key)
+      (given_at now (Start id call_id request to))
+  pub kept : list_any (λ timed. is_lost timed.input) (inputs_of config (rounds_of side turns) key)
+      ≡ false
   pub short : length (written request) ≤ 65535
-  pub kept : list_any (λ timed. is_lost timed.input) after ≡ false
 
 -- the final responses that an agent gives by itself: 420 to an unknown option (RFC 3261, section
 -- 8.2.2.3), 481 without the dialog, or 500 in it (12.2.2), 482 (8.2.2.2), and a PRACK's (RFC 3262,
