@@ -29,9 +29,10 @@ is_invite method = bytes_eq method (codes "INVITE")
 abbrev pub pace_of : List ℕ → Pace
 pace_of method = if is_invite method then Doubled else Capped
 
--- When a request has gone out so often again, at the latest, in ms after its start: if each firing
--- of timer A or E comes at most `lag` ms late. Without lag timer E fires after T1, 3*T1, 7*T1, and
--- then each T2.
+-- When a request has gone out so often again, at the latest, in ms after its start, if each firing
+-- of timer A or E comes at most `lag` ms late. With no lag that is after T1, 3*T1 and 7*T1, and
+-- then for timer E each T2, for timer A after 15*T1, 31*T1 and 63*T1 (sections 17.1.1.2 and
+-- 17.1.2.2).
 abbrev pub latest_repeat : Pace → ℕ → ℕ → ℕ
 latest_repeat pace lag zero = 0
 latest_repeat pace lag (suc repeats) =
@@ -39,7 +40,8 @@ latest_repeat pace lag (suc repeats) =
 
 -- a tick comes at most `lag` ms after what it finds due
 abbrev pub IsInTime : ℕ → Option ℕ → Timed Input → Type 0
-IsInTime lag due timed = timed.input ≡ None → IfSome due (λ due. timed.moment ≤ due + lag)
+IsInTime lag due timed =
+    timed.input ≡ None → IfSome due (λ moment. timed.moment ≤ moment + lag)
 
 -- so does each tick of these inputs
 abbrev pub TicksInTime : Machine Key Life (Timed Input) Out → ℕ → Key → Option Life
@@ -76,8 +78,8 @@ is_copy to bytes (out.Dropped place why) = false
 abbrev pub copies : Addr → List ℕ → List Out → ℕ
 copies to bytes outs = count_by (is_copy to bytes) outs
 
--- A client's request is sent when it is started, and again until it is answered: by the tick after
--- the latest moment of so many repeats, all these have gone out, unless the wait has ended.
+-- A client's request goes out when it is started, and again until the wait ends: by a tick that
+-- comes in time, after the latest moment of so many repeats, all these have gone out.
 abbrev pub EachRequestIsRepeated : Machine Key Life (Timed Input) Out → Type 0
 EachRequestIsRepeated machine = (branch method : List ℕ) (lag repeats now end : ℕ) (id : Id)
     (call_id : List ℕ) (request : Message) (to : Addr) (waiting : List (Timed Input))

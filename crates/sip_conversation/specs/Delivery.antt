@@ -58,8 +58,8 @@ pub record GoesOn (delay : ℕ) (turns later : List Turn) : Type 0 where
       turns
 
 module _ (configs : Side → Config) where
-  -- if a timer of a transaction is due, its side runs its next round at most `lag` ms later (a round
-  -- gives each transaction a tick)
+  -- Each side runs its next round at most `lag` ms after a timer of a transaction is due: each
+  -- round gives each transaction a tick.
   abbrev pub RunInTime : ℕ → List Turn → Type 0
   RunInTime lag turns = (side : Side) (key : Key)
       → TicksInTime transaction_machine lag key None
@@ -113,8 +113,8 @@ is_lost (Some (Failed id)) = true
 is_lost (Some Abandon) = true
 
 -- At this moment a transaction of a side was started with this request to this address, with a text
--- of at most 65,535 bytes. In these turns the user doesn't give it up, and no send of it is reported
--- to have failed.
+-- of at most 65,535 bytes. In these turns the user doesn't give it up, and no send of it is
+-- reported to have failed.
 pub record IsUnderWay (config : Config) (to : Addr) (side : Side) (turns : List Turn) (key : Key)
     (now : ℕ) (request : Message) : Type 0 where
   pub id : Id
@@ -155,8 +155,9 @@ module _ (config : Config) (rounds : List Round) (request : Message) (id : Id) w
     pub starts : response.start ≡ Response status reason
     pub own : is_own_status request status ≡ true
 
--- In turns up to this moment the request came up to the call of its Call-ID at the other side, as it
--- was sent, except for the stamp; and the user there was told, or the agent answered it by itself.
+-- In turns up to this moment the request came up to the call of its Call-ID at the other side, as
+-- it was sent, except for the stamp; and the user there was told, or the agent answered it by
+-- itself.
 pub record ArrivesBy (configs : Side → Config) (turns : List Turn) (side : Side)
     (request : Message) (moment : ℕ) : Type 0 where
   pub front : List Turn
@@ -178,15 +179,16 @@ pub record RunsAfter (side : Side) (moment : ℕ) (turns : List Turn) : Type 0 w
   pub of : turn.side ≡ side
   pub after : moment < (turn.round).moment
 
--- A request other than CANCEL, which isn't given up, arrives, and that by the moment of its last try
--- and the delay of the network, if that is before timer B or F fires. The tries are the request and
--- its repeats.
+-- A request other than CANCEL arrives by the latest moment of its last try and the delay of the
+-- network, if these are before timer B or F fires, and if its side runs a round after that. The
+-- tries are the request and its repeats.
 abbrev pub RequestsArrive : (Side → Config) → List Turn → Type 0
 RequestsArrive configs turns = (lag repeats delay : ℕ) → ShareAClock turns
     → RunInTime configs lag turns → Delivers configs (suc repeats) delay turns
     → (side : Side) (branch method : List ℕ) (now : ℕ) (request : Message)
     → (method ≡ codes "CANCEL" → ⊥)
-    → IsUnderWay (configs side) (configs (peer side)).local side turns (key.Client branch method) now
+    → IsUnderWay (configs side) (configs (peer side)).local side turns (key.Client branch method)
+    now
     request
     → AreCounted (configs side) (rounds_of side turns)
     → let last = latest_repeat (pace_of method) lag repeats + delay in

@@ -12,32 +12,34 @@ use sip_round::Config;
 
 /// A client's request goes out when it is started, and again at each moment of timer A (an INVITE)
 /// or timer E: after T1, then after that interval doubled each time, which for timer E is at most
-/// T2. Each of these may come `lag` ms late. If a tick comes after the latest moment of so many
-/// repeats, all of them have gone out before it, with the same bytes, unless a response came before,
-/// the user gave the request up, a send was reported to have failed, or timer B or F has fired (RFC
-/// 3261, sections 17.1.1.2 and 17.1.2.2). So without lag a request goes out 11 times in 64*T1, an
-/// INVITE 7 times. No request goes out more often.
+/// T2 (RFC 3261, sections 17.1.1.2 and 17.1.2.2). Let each tick come at most `lag` ms after what it
+/// finds due. If one comes after the latest moment of so many repeats, all of them have gone out
+/// before it, with the same bytes, to the same address. Only a response ends this, or timer B or F,
+/// the user, who gives the request up, or a failed send. So with no lag a request goes out 11 times
+/// in 64*T1, an INVITE 7 times; by `few_sends` of sip_transactions it never goes out more often.
 pub fn a_request_is_repeated()
     ensures { EachRequestIsRepeated transaction_machine }
 {}
 
-/// In a conversation of turns whose moments are of one clock, let each side run its rounds at most
-/// `lag` ms after a timer of a transaction is due. Of any so many copies of a datagram that a side
-/// sends to the other one, one after another, let one at least come within `delay` ms. All others
-/// may be lost, duplicated, late or out of order. Then each request that a side sends to the other
-/// one arrives, if it isn't given up, no send of it is reported to have failed, and it has at most
-/// 65,535 bytes: by the latest moment of its last try and that delay, if these end before timer B or
-/// F fires. The tries are the request and its repeats (see `a_request_is_repeated`). For a request
-/// other than INVITE up to 11 of them fit into 64*T1, with 10 at most 500 ms for both lag and delay,
-/// with 9 tries 4,500 ms.
+/// A conversation in which datagrams may be lost, duplicated, late or out of order, but not all of
+/// them. The moments of its turns are of one clock. Each side runs its next round at most `lag` ms
+/// after a timer of a transaction is due. Of any so many copies of a datagram that a side sends to
+/// the other one, one after another, one at least comes within `delay` ms. Then each request that a
+/// side sends to the other one arrives, if it isn't given up, none of its sends is reported to have
+/// failed, and its text has at most 65,535 bytes. Its tries are the request and its repeats (see
+/// `a_request_is_repeated`). It arrives by the latest moment of its last try and that delay, if
+/// these are before timer B or F fires. So this is said of 11 tries of a request other than INVITE
+/// if 10 lags and the delay are below 500 ms, of 10 if 9 lags and the delay are below 4,500 ms, of
+/// 9 if 8 lags and the delay are below 8,500 ms; and of 6 tries of an INVITE if 5 lags and the
+/// delay are below 16,500 ms.
 ///
-/// It comes up to the call of its Call-ID, as it was sent, except for the stamp. The other user is
-/// told of it, and of the end of a dialog of the call if it is a BYE; or the other agent responds by
-/// itself, with 420, 481, 482 or 500, or with 200 to a PRACK. It may do so before, if the request
-/// comes more often: a transaction hands up a request once.
+/// The request comes up to the call of its Call-ID, as it was sent, except for the stamp. The other
+/// user is told of it, and of the end of a dialog of that call if it is a BYE. Or the other agent
+/// gives the final response by itself: 420, 481, 482 or 500, or 200 to a PRACK. As long as its
+/// transaction is held there, the request comes up once (`one_request_up` of sip_transactions).
 ///
-/// Of a CANCEL this isn't said. The rounds of the side that sends have numbers below 2^64 and fewer
-/// than 2^64 events each.
+/// This isn't said of a CANCEL. The rounds of the side that sends have numbers below 2^64 and fewer
+/// than 2^64 events each. If the last try or the delay ends after timer B or F, nothing is said.
 pub fn requests_arrive(one: Config, other: Config)
     ensures { (turns : List Turn) → Carried (of_sides one other) turns
         → CommandsKeepTypes turns
