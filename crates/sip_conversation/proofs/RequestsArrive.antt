@@ -42,7 +42,7 @@ use Rattle.sip_conversation.proofs.Longer.{rounds_of-append}
 use Rattle.sip_conversation.proofs.OftenSent as often
 use Rattle.sip_conversation.proofs.OneCallId.{out_replies}
 use Rattle.sip_conversation.proofs.RoundInputs.{BeginsWithTick, begins_with_tick, inputs-append, inputs_after, inputs_after_at, inputs_at}
-use Rattle.sip_conversation.proofs.UpTo.{InputBy, IsBy, IsFirst, IsLater, Parted, StandsEarly, each_not, has_first, in_time_after, in_time_first, own_round, parted, rounds_at, some_one, stands_early}
+use Rattle.sip_conversation.proofs.UpTo.{InputBy, IsBy, IsFirst, IsLater, Parted, StandsEarly, each_not, has_first, in_time_after, in_time_first, own_round, parted, round_of, rounds_at, some_one, stands_early}
 use Rattle.sip_conversation.proofs.RequestsAsked.{out_own}
 use Rattle.sip_conversation.proofs.SameRequest.{handed_up}
 use Rattle.sip_conversation.proofs.ToldOrAnswered.{told_or_answered}
@@ -271,31 +271,33 @@ module _ (configs : Side → Config) (fair : IsFair configs) (turns : List Turn)
 
     -- ---- all copies go out
 
-    too_late : (on.turn.round).moment ≤ now + latest → ⊥
-    too_late by = let after = on.after in omega (arith, by, after)
+    too_late : (on.0).moment ≤ now + latest → ⊥
+    too_late by = let after = on.2 in omega (arith, by, after)
 
-    in_rest : Contains parts.rest on.turn
-    in_rest =
+    -- that round is one of the later ones
+    in_late : Contains late on.0
+    in_late =
         ⊎_elim
-        (λ before. absurd (too_late (each_of (IsBy (now + latest)) front on.turn parts.early before)))
+        (λ before. absurd (too_late (each_of (λ (round : Round). round.moment ≤ now + latest) early
+        on.0 (rounds_at (λ m. m ≤ now + latest) s front parts.early) before)))
         (λ later. later)
-        (Contains-append_cases front parts.rest on.turn
-        (subst (λ ts. Contains ts on.turn) parts.are on.among))
+        (Contains-append_cases early late on.0
+        (subst (λ rounds. Contains rounds on.0) (rounds_to (now + latest) start_by) on.1))
 
     goes_on : GoesOn delay front parts.rest
     goes_on =
-        let after : now + (latest + delay) < (on.turn.round).moment = on.after in
-        record {
-          turn = on.turn;
-          among = in_rest;
-          after = all_go {P = IsBy (now + latest)}
-              {Q = λ earlier. (earlier.round).moment + delay < (on.turn.round).moment}
-              (λ turn by. omega (arith, by, after)) front parts.early;
-        }
+        let one = round_of s parts.rest on.0 in_late in
+        let after : now + (latest + delay) < ((one.0).round).moment =
+        subst (λ (round : Round). now + (latest + delay) < round.moment) (sym one.2) on.2 in (
+          one.0,
+          one.1,
+          all_go {P = IsBy (now + latest)}
+              {Q = λ earlier. (earlier.round).moment + delay < ((one.0).round).moment}
+              (λ turn by. omega (arith, by, after)) front parts.early,
+        )
 
     next_round : IsFirst late
-    next_round = has_first late on.turn.round
-        (own_round s parts.rest on.turn in_rest on.of)
+    next_round = has_first late on.0 in_late
 
     sent : list_any (ends_wait (now + 32000)) waiting ≡ false
         → suc repeats ≤ copies there text
@@ -344,10 +346,9 @@ module _ (configs : Side → Config) (fair : IsFair configs) (turns : List Turn)
 
     one_comes : OneIsDelivered configs delay [] front parts.rest s text → Arrives
     one_comes one =
-        let came = one.delivered in
-        let at : Turn = came.at in
+        let at : Turn = one.at in
         let by : (at.round).moment ≤ last =
-        let soon_after : (at.round).moment ≤ (one.turn.round).moment + delay = came.soon in
+        let soon_after : (at.round).moment ≤ (one.turn.round).moment + delay = one.soon in
         let sent_by : (one.turn.round).moment ≤ now + latest =
         each_of (IsBy (now + latest)) front one.turn parts.early
         (subst (λ ts. Contains ts one.turn) (sym one.are)
@@ -359,7 +360,7 @@ module _ (configs : Side → Config) (fair : IsFair configs) (turns : List Turn)
         subst (λ ts. Contains ts at) (sym (parts.are ∙ (ap (λ ts. ts ++ parts.rest) one.are
         ∙ append_assoc one.front (one.turn ∷ one.rest) parts.rest)))
         (Contains-append_right one.front (one.turn ∷ one.rest ++ parts.rest) at
-        (among_later one.turn (one.rest ++ parts.rest) at came.among)) in
+        (among_later one.turn (one.rest ++ parts.rest) at one.among)) in
         let early_enough : Contains whole.front at =
         ⊎_elim (λ early. early)
         (λ late. absurd (not_after at by (each_of (IsLater last) whole.rest at whole.late late)))
@@ -368,7 +369,7 @@ module _ (configs : Side → Config) (fair : IsFair configs) (turns : List Turn)
         let given = text_given request (rules_to last start_before) way.short
         (asks_to last start_before) config.local (configs (peer s))
         (rounds_of (peer s) whole.front) at.round
-        (own_round (peer s) whole.front at early_enough came.to) came.comes in
+        (own_round (peer s) whole.front at early_enough one.to) one.comes in
         arrives_by last start_before (
           key_of_message (come_from config.local request),
           given.0,
@@ -393,9 +394,9 @@ requests_arrive configs fair turns carried keep lag repeats delay clock runs del
     let from : first ≤ now =
     by_now configs fair turns clock s branch method now request no_cancel way few in
     let last = latest_repeat (pace_of method) lag repeats + delay in
-    let after : now + last < (on.turn.round).moment = on.after in
+    let after : now + last < (on.0).moment = on.2 in
     later_by configs turns s request (first + last) (now + last) (omega arith)
     (arrives configs fair turns carried keep lag repeats delay clock runs delivers s branch method
     first request no_cancel
     (begun configs fair turns clock s branch method now request no_cancel way few) few soon
-    (record { turn = on.turn; among = on.among; of = on.of; after = omega (arith, after, from) }))
+    (on.0, on.1, omega (arith, after, from)))

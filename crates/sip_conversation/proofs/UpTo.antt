@@ -17,7 +17,7 @@ use Rattle.sip_conversation.specs.Copies.{TicksInTime}
 use Rattle.sip_conversation.specs.Delivery.{ShareAClock}
 use Rattle.sip_conversation.proofs.OftenSent.{or_false}
 use Rattle.sip_conversation.proofs.RoundInputs.{RoundsRise}
-use Rattle.sip_conversation.proofs.Among.{all_go, among_first, among_kept, among_later, first_or_later, mapped_among, none_among}
+use Rattle.sip_conversation.proofs.Among.{all_go, among_first, among_kept, among_later, among_mapped, first_or_later, kept_among, mapped_among, none_among}
 
 -- ---- turns
 
@@ -104,6 +104,17 @@ own_round s turns turn among of =
     mapped_among (λ (t : Turn). t.round) (filter (λ t. is_side s t.side) turns) turn
     (among_kept (λ (t : Turn). is_side s t.side) turns turn among
     (ap (is_side s) of ∙ own_side s))
+
+-- a round of a side is that of one of its turns
+pub round_of : (s : Side) (turns : List Turn) (round : Round) → Contains (rounds_of s turns) round
+    → (turn : Turn) × Contains turns turn × (turn.round ≡ round)
+round_of s turns round among =
+    let found = among_mapped (λ (t : Turn). t.round) (filter (λ t. is_side s t.side) turns) round
+    among in (
+      found.0,
+      (kept_among (λ (t : Turn). is_side s t.side) turns found.0 found.1).0,
+      found.2,
+    )
 
 -- ---- lists
 

@@ -61,6 +61,7 @@ ends_by end now (Some (Answer id message)) = false
 ends_by end now (Some (Failed id)) = true
 ends_by end now (Some Abandon) = true
 
+-- so for an input at its moment
 abbrev pub ends_wait : ℕ → Timed Input → Bool
 ends_wait end timed = ends_by end timed.moment timed.input
 

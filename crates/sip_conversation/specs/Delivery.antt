@@ -51,11 +51,9 @@ is_sent to bytes (output.Dropped place why) = false
 is_sent to bytes (output.Notice notice) = false
 
 -- a turn comes more than `delay` ms after all of these
-pub record GoesOn (delay : ℕ) (turns later : List Turn) : Type 0 where
-  pub turn : Turn
-  pub among : Contains later turn
-  pub after : AllByRecursion (λ earlier. (earlier.round).moment + delay < (turn.round).moment)
-      turns
+abbrev pub GoesOn : ℕ → List Turn → List Turn → Type 0
+GoesOn delay turns later = (turn : Turn) × Contains later turn
+    × AllByRecursion (λ earlier. (earlier.round).moment + delay < (turn.round).moment) turns
 
 module _ (configs : Side → Config) where
   -- Each side runs its next round at most `lag` ms after a timer of a transaction is due: each
@@ -72,25 +70,20 @@ module _ (configs : Side → Config) where
       (all_given (drop (length (rounds_of side before))
       (answers (configs side) (rounds_of side (before ++ turns)))))
 
-  -- a side sends such a datagram in a turn, after those before; one comes to the other side later,
-  -- at most `delay` ms after that turn
-  pub record IsDelivered (delay : ℕ) (before : List Turn) (turn : Turn) (later : List Turn)
-      (side : Side) (bytes : List ℕ) : Type 0 where
-    pub sent : 1 ≤ copies_sent before (turn ∷ []) side bytes
-    pub at : Turn
-    pub among : Contains later at
-    pub to : at.side ≡ peer side
-    pub soon : (at.round).moment ≤ (turn.round).moment + delay
-    pub comes : Contains (at.round).events (Datagram (configs side).local bytes)
-
-  -- one of the copies that are sent in turns is delivered
+  -- a side sends such a datagram in one of these turns, which come after those before, and one comes
+  -- to the other side later, at most `delay` ms after that turn
   pub record OneIsDelivered (delay : ℕ) (before turns later : List Turn) (side : Side)
       (bytes : List ℕ) : Type 0 where
     pub front : List Turn
     pub turn : Turn
     pub rest : List Turn
     pub are : turns ≡ front ++ turn ∷ rest
-    pub delivered : IsDelivered delay (before ++ front) turn (rest ++ later) side bytes
+    pub sent : 1 ≤ copies_sent (before ++ front) (turn ∷ []) side bytes
+    pub at : Turn
+    pub among : Contains (rest ++ later) at
+    pub to : at.side ≡ peer side
+    pub soon : (at.round).moment ≤ (turn.round).moment + delay
+    pub comes : Contains (at.round).events (Datagram (configs side).local bytes)
 
   -- Of any `tries` copies of a datagram that a side sends to the other one, one after another, one
   -- at least is delivered within `delay` ms, if the turns go on for so long. All else may be lost,
@@ -172,12 +165,10 @@ pub record ArrivesBy (configs : Side → Config) (turns : List Turn) (side : Sid
       ⊎ IsAnsweredThere (configs (peer side)) (rounds_of (peer side) front)
       (come_from (configs side).local request) up.id
 
--- the turns of a side go on after this moment
-pub record RunsAfter (side : Side) (moment : ℕ) (turns : List Turn) : Type 0 where
-  pub turn : Turn
-  pub among : Contains turns turn
-  pub of : turn.side ≡ side
-  pub after : moment < (turn.round).moment
+-- a side runs a round after this moment
+abbrev pub RunsAfter : Side → ℕ → List Turn → Type 0
+RunsAfter side moment turns =
+    (round : Round) × Contains (rounds_of side turns) round × (moment < round.moment)
 
 -- A request other than CANCEL arrives by the latest moment of its last try and the delay of the
 -- network, if these are before timer B or F fires, and if its side runs a round after that. The
