@@ -27,6 +27,7 @@ use Rattle.sip_transactions.specs.Machine.{transaction_machine}
 use Rattle.sip_transactions.specs.Shard.{order}
 use Rattle.sip_transactions.proofs.LawSteps.{commands_only_send}
 use Rattle.sip_transactions.proofs.Rules.{at_steps}
+use Rattle.sip_user.specs.Command.{call_of_item}
 use Rattle.sip_user.specs.declared.item.Item.{Item}
 use Rattle.sip_user.specs.declared.item.Item.TheVariants.{Up}
 use Rattle.sip_calls.specs.Call.{CallItem}
@@ -100,6 +101,48 @@ module _ (phases : List (Phase Key (Timed Input))) where
         (orders.0).1 (orders.0).2),
     only_sends (record part { items = part.items ++ item ∷ [] }) items orders.1,
   )
+
+-- ---- an item of a round is given to its call
+
+module _ (one : Id × Item) where
+  pub item_at : (place : ℕ) (items : List (Id × Item)) → Contains items one
+      → (at : ℕ) × Contains (call_items place items)
+      (record { place = at; key = call_of_item one.1; input = one })
+  item_at place [] among = absurd (none_among one among)
+  item_at place (first ∷ items) among =
+      ⊎_elim
+      (λ same. (
+        place,
+        subst (λ (i : Id × Item). Contains (call_items place (i ∷ items))
+            (record { place = place; key = call_of_item one.1; input = one })) (sym same)
+            (among_first _ (call_items (suc place) items)),
+      ))
+      (λ later. let found = item_at (suc place) items later in
+      (found.0, among_later _ (call_items (suc place) items) _ found.1))
+      (first_or_later first items one among)
+
+  pub call_given : (config : Config) (number : ℕ) (past : Past) (round : Round)
+      → Contains (items_of_round config number past round) one
+      → Contains (own_inputs call_cmp tick_at (second config number past round)
+      (call_of_item one.1)) (given_at round.moment one)
+  unfolding second
+  call_given config number past round among =
+      let items = call_items 0 (items_of_round config number past round) in
+      let found = item_at 0 (items_of_round config number past round) among in
+      let item : model.Item (List ℕ) CallItem =
+      record { place = found.0; key = call_of_item one.1; input = one } in
+      let timed = timed_item round.moment item in
+      Contains-append_right (tick_at round.moment ∷ [])
+      (phase.inputs_of call_cmp (timed_items round.moment items) (call_of_item one.1))
+      (given_at round.moment one)
+      (mapped_among (λ (i : model.Item (List ℕ) (Timed CallItem)). i.input)
+      (filter (λ i. is_at (call_cmp i.key) (call_of_item one.1)) (timed_items round.moment items))
+      timed
+      (among_kept (λ (i : model.Item (List ℕ) (Timed CallItem)).
+      is_at (call_cmp i.key) (call_of_item one.1))
+      (timed_items round.moment items) timed
+      (mapped_among (timed_item round.moment) items item found.1)
+      (is_at_itself nat_list_cmp_total (call_of_item one.1))))
 
 -- ---- one round
 
@@ -219,42 +262,6 @@ module _ (up : AnUp) where
         each_of IsSend (group.0).1 o
         (each_of (OnlySends phases) told.items group.0 only group.1) group.2
 
-    item_at : (place : ℕ) (items : List (Id × Item)) (id : Id) → Contains items (id, Up up)
-        → (at : ℕ) × Contains (call_items place items)
-        (record { place = at; key = up.call_id; input = (id, Up up) })
-    item_at place [] id among = absurd (none_among (id, Up up) among)
-    item_at place (one ∷ items) id among =
-        ⊎_elim
-        (λ same. (
-          place,
-          subst (λ (i : Id × Item). Contains (call_items place (i ∷ items))
-              (record { place = place; key = up.call_id; input = (id, Up up) })) (sym same)
-              (among_first _ (call_items (suc place) items)),
-        ))
-        (λ later. let found = item_at (suc place) items id later in
-        (found.0, among_later _ (call_items (suc place) items) _ found.1))
-        (first_or_later one items (id, Up up) among)
-
-    call_given : (id : Id) → Contains (items_of_round config number past round) (id, Up up)
-        → Contains (own_inputs call_cmp tick_at (second config number past round) up.call_id)
-        (given_at round.moment (id, Up up))
-    unfolding second
-    call_given id among =
-        let items = call_items 0 (items_of_round config number past round) in
-        let found = item_at 0 (items_of_round config number past round) id among in
-        let item : model.Item (List ℕ) CallItem =
-        record { place = found.0; key = up.call_id; input = (id, Up up) } in
-        let timed = timed_item round.moment item in
-        Contains-append_right (tick_at round.moment ∷ [])
-        (phase.inputs_of call_cmp (timed_items round.moment items) up.call_id)
-        (given_at round.moment (id, Up up))
-        (mapped_among (λ (i : model.Item (List ℕ) (Timed CallItem)). i.input)
-        (filter (λ i. is_at (call_cmp i.key) up.call_id) (timed_items round.moment items)) timed
-        (among_kept (λ (i : model.Item (List ℕ) (Timed CallItem)). is_at (call_cmp i.key) up.call_id)
-        (timed_items round.moment items) timed
-        (mapped_among (timed_item round.moment) items item found.1)
-        (is_at_itself nat_list_cmp_total up.call_id)))
-
   -- ---- rounds
 
   module _ (config : Config) (key : Key) where
@@ -288,7 +295,7 @@ module _ (up : AnUp) where
           round.moment,
           found.0,
           Contains-append_left own more (given_at round.moment (found.0, Up up))
-              (call_given config number past round found.0 found.1),
+              (call_given (found.0, Up up) config number past round found.1),
         ))
         (λ later. ⊎_elim
         (λ there. absurd (not_later config number past round

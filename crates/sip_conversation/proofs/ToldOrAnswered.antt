@@ -20,6 +20,7 @@ use Rattle.sip_transactions.specs.declared.output.UpKind.{UpKind}
 use Rattle.sip_transactions.specs.declared.output.UpKind.TheVariants as kind
 use Rattle.sip_user.specs.declared.item.CallOut.{CallOut}
 use Rattle.sip_user.specs.declared.item.CallOut.TheVariants.{Command, Notice}
+use Rattle.sip_user.specs.declared.item.Item.{Item}
 use Rattle.sip_user.specs.declared.item.Item.TheVariants.{Up}
 use Rattle.sip_user.specs.declared.notice.Notice.{Notice as ANotice}
 use Rattle.sip_user.specs.declared.notice.Notice.TheVariants.{Ended, Request}
@@ -56,7 +57,7 @@ use Rattle.sip_conversation.proofs.Among.{among_first, among_later, in_all_of, k
 
 -- ---- a dialog that is held stays after a change
 
-lookup_set : {K X : Type 0} (test : K → Bool) (entries : List (K × X)) (x y : X)
+pub lookup_set : {K X : Type 0} (test : K → Bool) (entries : List (K × X)) (x y : X)
     → lookup test entries ≡ Some x → lookup test (set_value test entries y) ≡ Some y
 lookup_set test [] x y is = absurd cc
 lookup_set test (entry ∷ entries) x y is =
@@ -255,13 +256,13 @@ module _ (config : Config) (rounds : List Round)
     abbrev calls : Calls
     calls = calls_of config
 
-    in_call : (now : ℕ) (event : Id) (up : AnUp)
-        → Contains (call_inputs_of config rounds call_id) (given_at now (event, Up up))
+    pub in_call : (now : ℕ) (event : Id) (item : Item)
+        → Contains (call_inputs_of config rounds call_id) (given_at now (event, item))
         → (before : List (Timed CallItem)) × ((out : CallOut)
-        → Contains (call_step calls (call_from calls None before) (Some (event, Up up)) now).1 out
+        → Contains (call_step calls (call_from calls None before) (Some (event, item)) now).1 out
         → Contains (said_of_call config rounds call_id) out)
-    in_call now event up among =
-        let timed : Timed CallItem = given_at now (event, Up up) in
+    in_call now event item among =
+        let timed : Timed CallItem = given_at now (event, item) in
         let at = stands_at (call_inputs_of config rounds call_id) timed among in (
           at.before,
           λ out gives.
@@ -273,11 +274,11 @@ module _ (config : Config) (rounds : List Round)
         )
 
     -- a notice of a call is given
-    record IsGivenTo (told : ANotice) : Type 0 where
-      given : Contains (all_given (answers_of config rounds)) (output.Notice told)
-      own : call_id ≡ call_of_notice told
+    pub record IsGivenTo (told : ANotice) : Type 0 where
+      pub given : Contains (all_given (answers_of config rounds)) (output.Notice told)
+      pub own : call_id ≡ call_of_notice told
 
-    notice_given : (told : ANotice) → Contains (said_of_call config rounds call_id) (Notice told)
+    pub notice_given : (told : ANotice) → Contains (said_of_call config rounds call_id) (Notice told)
         → IsGivenTo told
     notice_given told among =
         let kept = kept_among (is_notice_of call_id) (all_given (answers_of config rounds))
@@ -335,7 +336,7 @@ module _ (config : Config) (rounds : List Round)
           → ComesUp config rounds call_id up
           → IsTold config rounds request up.id ⊎ IsAnsweredThere config rounds request up.id
       told_or_answered is comes =
-          let own = in_call comes.0 comes.1 up comes.2 in
+          let own = in_call comes.0 comes.1 (Up up) comes.2 in
           let state = call_from calls None own.0 in
           let outs = (call_step calls state (Some (comes.1, Up up)) comes.0).1 in
           let so = fine_at calls state comes.1 up request reply_to no_cancel comes.0 is in

@@ -2,6 +2,7 @@
 
 ghost use Rattle.std.specs.Prelude.{List};
 ghost use Rattle.sip_transactions.specs.Machine.{transaction_machine};
+ghost use Rattle.sip_conversation.specs.Byes.{ByesGoOut};
 ghost use Rattle.sip_conversation.specs.Commands.{CommandsKeepTypes};
 ghost use Rattle.sip_conversation.specs.Conversation.{Carried, Turn, of_sides};
 ghost use Rattle.sip_conversation.specs.Copies.{EachRequestIsRepeated};
@@ -46,4 +47,11 @@ pub fn requests_arrive(one: Config, other: Config)
         → RequestsArrive (of_sides one other) turns }
 {
     sides_are_fair(&one, &other);
+}
+
+/// Law.
+pub fn byes_go_out(config: Config)
+    ensures { ByesGoOut config }
+{
+    sides_are_fair(&config, &config);
 }
