@@ -93,7 +93,7 @@ pub mod HandedUp
 pub mod ComesUp
 pub mod SameRequest
 pub mod ToldOrAnswered
-pub mod ByesGoOut
+pub mod RequestsGoOut
 pub mod FirstStart
 pub mod Begun
 pub mod RequestsArrive

@@ -70,8 +70,8 @@ module _ (configs : Side → Config) where
       (all_given (drop (length (rounds_of side before))
       (answers (configs side) (rounds_of side (before ++ turns)))))
 
-  -- a side sends such a datagram in one of these turns, which come after those before, and one comes
-  -- to the other side later, at most `delay` ms after that turn
+  -- a side sends such a datagram in one of these turns, which come after those before, and one
+  -- comes to the other side later, at most `delay` ms after that turn
   pub record OneIsDelivered (delay : ℕ) (before turns later : List Turn) (side : Side)
       (bytes : List ℕ) : Type 0 where
     pub front : List Turn

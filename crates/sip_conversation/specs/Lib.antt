@@ -14,5 +14,5 @@ pub mod Acks
 pub mod ToldPracks
 pub mod Copies
 pub mod Delivery
-pub mod Byes
+pub mod GoOut
 pub mod Steps

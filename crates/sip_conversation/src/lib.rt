@@ -5,7 +5,7 @@
 mod delivery;
 mod laws;
 
-pub use delivery::{a_request_is_repeated, byes_go_out, requests_arrive};
+pub use delivery::{a_request_is_repeated, requests_arrive, requests_go_out};
 pub use laws::{
     acks_follow_responses, acks_told_were_said, calls_hear_unchanged, calls_keep_rules,
     cancels_told_were_asked_for, datagrams_are_texts_said, messages_come_unchanged,

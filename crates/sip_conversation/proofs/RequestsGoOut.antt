@@ -1,13 +1,13 @@
--- A user who asks for a BYE is told that it is refused, or of the end of its dialog; then it goes
--- out.
+-- A request that a user asks for is refused, or goes out; if it is a BYE, he is told of the end of
+-- its dialog.
 use Rattle.std.proofs.Common.{◌≡◌, ◌⊎◌, inl, inr, ⊎_elim, ℕ, suc, Bool, true, false, cond, List, [], ◌∷◌, ◌++◌, refl, sym, ap, ◌∙◌, subst, codes}
-use Rattle.std.specs.Prelude.{◌||◌, ◌&&◌, Contains, Option, None, Some, filter, not, if◌then◌else◌}
+use Rattle.std.specs.Prelude.{◌||◌, Contains, Option, None, Some, filter}
 use Rattle.std.specs.BTreeMap.{is_at}
 use Rattle.std.specs.List.{flat_map}
 use Rattle.std.specs.Map.{lookup, set_value}
 use Rattle.std.specs.Option.{option_map_or}
 use Rattle.std.specs.Str.{bytes_eq}
-use Rattle.std.proofs.lemmas.List.Elements.{Contains-append_cases, Contains-append_left, Contains-append_right}
+use Rattle.std.proofs.lemmas.List.Elements.{Contains-append_left, Contains-append_right}
 use Rattle.std.proofs.lemmas.Slice.Eq.{bytes_eq-Decides}
 use Rattle.sip_message.specs.declared.addr.Addr.{Addr}
 use Rattle.sip_message.specs.declared.id.Id.{Id}
@@ -18,7 +18,6 @@ use Rattle.keyed_machine.specs.declared.item.Item as model
 use Rattle.keyed_machine.specs.Laws.{EachKeyAlone, said_by}
 use Rattle.keyed_machine.specs.Machine.{Machine, Timed, given_at, state_from, tick_at}
 use Rattle.keyed_machine.specs.Phase.{Phase, history, own_inputs, timed_item, timed_items}
-use Rattle.keyed_machine.specs.Phase as phase
 use Rattle.keyed_machine.specs.Rules.{said_since, said_to}
 use Rattle.keyed_machine.proofs.Ordered.{is_at_itself}
 use Rattle.std.proofs.lemmas.Cmp.{nat_list_cmp_total}
@@ -41,18 +40,17 @@ use Rattle.sip_user.specs.declared.refusal.Refusal.{Refusal}
 use Rattle.sip_user.specs.declared.refusal.Refusal.TheVariants.{BadMethod, NoSuchDialog}
 use Rattle.sip_held_dialogs.specs.declared.held_dialog.DialogId.{DialogId}
 use Rattle.sip_held_dialogs.specs.declared.held_dialog.HeldDialog.{HeldDialog}
-use Rattle.sip_held_dialogs.specs.Dialogs.{Dialogs, dialog_at, ended_at, ended_notice, is_dialog_id, tag_text}
+use Rattle.sip_held_dialogs.specs.Dialogs.{Dialogs, ended_at, ended_notice, is_dialog_id, tag_text}
 use Rattle.sip_held_dialogs.specs.Requests.{dialog_id_of_tags}
 use Rattle.sip_clients.specs.declared.client.Client.{Client}
 use Rattle.sip_clients.specs.declared.event.Event.{Event}
 use Rattle.sip_clients.specs.Client.{ClientTaken, Side}
 use Rattle.sip_clients.specs.Rules.Requests.{has_command, refusals_in, refuse, request_command, request_in_dialog, request_with_next_number, start, with_number}
-use Rattle.sip_message.specs.Content.{Content, with_content_of}
+use Rattle.sip_message.specs.Content.{with_content_of}
 use Rattle.sip_calls.specs.declared.call.Call.{Call}
 use Rattle.sip_calls.specs.declared.calls.Calls.{Calls}
 use Rattle.sip_calls.specs.Call.{CallItem, call_machine, call_step, event_of, side_of}
 use Rattle.sip_calls.specs.CallShard.{call_cmp}
-use Rattle.sip_calls.specs.Histories.{call_from}
 use Rattle.sip_round.specs.declared.config.Config.{Config}
 use Rattle.sip_round.specs.declared.round.Event.{Event as AnEvent}
 use Rattle.sip_round.specs.declared.round.Event.TheVariants as event
@@ -66,95 +64,233 @@ use Rattle.sip_round.specs.Laws.{call_inputs_of, inputs_of, said_of_call}
 use Rattle.sip_round.specs.Outputs.{command_of, joined, outs_of, raised_of, said_at, user_items}
 use Rattle.sip_round.specs.Phases.{call_items, command_items}
 use Rattle.sip_round.proofs.GivenNotices.{calls_are, calls_from}
-use Rattle.sip_conversation.specs.Byes.{ByeGoesOut, ByeIsTaken, ByesGoOut, IsRefused}
-use Rattle.sip_conversation.specs.Messages.{CallSays, IsGiven}
+use Rattle.sip_conversation.specs.GoOut.{GoesOut, IsRefused, RequestsGoOut}
+use Rattle.sip_conversation.specs.Requests.{request_asked_by}
+use Rattle.sip_conversation.specs.Messages.{CallSays}
 use Rattle.sip_conversation.proofs.Among.{among_first, among_kept, among_later, first_or_later, in_all_of, mapped_among, none_among}
 use Rattle.sip_conversation.proofs.ComesUp.{call_given, item_at}
-use Rattle.sip_conversation.proofs.OneStart.{calls_say}
 use Rattle.sip_conversation.proofs.RequestsAsked.{out_own}
-use Rattle.sip_conversation.proofs.Rounds.{calls_give, transactions_are, transactions_from}
+use Rattle.sip_conversation.proofs.Rounds.{transactions_are, transactions_from}
 use Rattle.sip_conversation.proofs.ToldOrAnswered.{lookup_set, notice_given}
+use Rattle.std.proofs.lemmas.Bool.{false≢true}
+use Rattle.std.proofs.lemmas.Option.{same_Some}
+use Rattle.sip_message.specs.Key.{client_key}
+use Rattle.sip_message.specs.TopVia.{top_branch}
+use Rattle.sip_dialog.specs.Request.{contact_of}
+use Rattle.sip_user.specs.Notices.{refused}
+use Rattle.sip_user.specs.declared.command.Invite.{Invite}
+use Rattle.sip_user.specs.declared.command.Plain.{Plain}
+use Rattle.sip_user.specs.declared.command.ProvisionalSupport.{ProvisionalSupport}
+use Rattle.sip_user.specs.declared.command.ProvisionalSupport.TheVariants as support
+use Rattle.sip_clients.specs.declared.client.RequestKind.TheVariants.{InitialInvite, OutOfDialog}
+use Rattle.sip_clients.specs.Client.{Clients, client_for}
+use Rattle.sip_clients.specs.Rules.Requests.{invite_command, plain_command, request_outside, with_100rel}
 
 -- ---- by the rule
 
--- a command for a BYE is refused, or a BYE goes out and its dialog ends
-module _ (request : DialogRequest) (event : Id) where
+module _ (call_id method body : List ℕ) (event : Id) where
   record Refuses (outs : List CallOut) : Type 0 where
     why : Refusal
-    told : Contains outs (Notice (Refused request.call_id event.place why))
+    told : Contains outs (Notice (Refused call_id event.place why))
 
   record Goes (outs : List CallOut) : Type 0 where
-    bye : Message
-    method : bye.cseq.method ≡ codes "BYE"
+    request : Message
+    method_is : request.cseq.method ≡ method
+    body_is : request.body ≡ body
     key : Key
     of : List ℕ
     to : Addr
-    starts : Contains outs (Command event (order.Start key of bye to))
-    held : HeldDialog
-    ends : Contains outs (ended_notice held)
+    starts : Contains outs (Command event (order.Start key of request to))
+    ends : method ≡ codes "BYE" → (held : HeldDialog) × Contains outs (ended_notice held)
 
+  -- a command is refused, or a request goes out
   abbrev IsFine : List CallOut → Type 0
   IsFine outs = Refuses outs ⊎ Goes outs
 
-  refused_so : (why : Refusal) → IsFine (Notice (Refused request.call_id event.place why) ∷ [])
+  refused_so : (why : Refusal) → IsFine (Notice (Refused call_id event.place why) ∷ [])
   refused_so why = inl (record { why = why; told = among_first _ [] })
 
-  module _ (bye : request.method ≡ codes "BYE") (calls : Calls) (now : ℕ) where
-    abbrev own : Event
-    own = event_of calls event now
+  or_fine : {X : Type 0} (f : X → ClientTaken) (otherwise : ClientTaken) (o : Option X)
+      → ((x : X) → o ≡ Some x → IsFine (f x).1) → IsFine otherwise.1
+      → IsFine (option_map_or f o otherwise).1
+  or_fine f otherwise None each none = none
+  or_fine f otherwise (Some x) each none = each x refl
 
-    or_fine : {X : Type 0} (f : X → ClientTaken) (otherwise : ClientTaken) (o : Option X)
-        → ((x : X) → o ≡ Some x → IsFine (f x).1) → IsFine otherwise.1
-        → IsFine (option_map_or f o otherwise).1
-    or_fine f otherwise None each none = none
-    or_fine f otherwise (Some x) each none = each x refl
+  -- a request that is no BYE
+  started_so : (client : Client) → client.id ≡ event → client.request.cseq.method ≡ method
+      → client.request.body ≡ body → (method ≡ codes "BYE" → ⊥) → (clients : Clients)
+      → IsFine (start (clients, []) client).1
+  started_so client id method_is body_is no_bye clients = inr (record {
+    request = client.request;
+    method_is = method_is;
+    body_is = body_is;
+    key = _;
+    of = _;
+    to = client.to;
+    starts = subst (λ i. Contains ([] ++ Command client.id
+        (order.Start (client_key (top_branch client.request) client.request.cseq.method)
+        client.request.call_id client.request client.to) ∷ [])
+        (Command i (order.Start (client_key (top_branch client.request)
+        client.request.cseq.method) client.request.call_id client.request client.to))) id
+        (among_first _ []);
+    ends = λ bye. absurd (no_bye bye);
+  })
 
-    its_method : (name : DialogId) (held : HeldDialog) → (request_with_next_number own name
-        request.method None request.content held).request.cseq.method ≡ codes "BYE"
-    unfolding with_content_of
-    its_method name held = bye
+other_method : (one other : List ℕ) → bytes_eq one other ≡ false → one ≡ other → ⊥
+other_method one other differ same =
+    false≢true (sym differ ∙ (bytes_eq-Decides one other).1 same)
 
-    is_bye : bytes_eq request.method (codes "BYE") ≡ true
-    is_bye = (bytes_eq-Decides request.method (codes "BYE")).1 bye
+module _ (event : Id) (calls : Calls) (now : ℕ) where
+  abbrev own : Event
+  own = event_of calls event now
+
+  -- ---- an INVITE
+
+  abbrev invite_client : Invite → ProvisionalSupport → Client
+  invite_client invite support = client_for event InitialInvite (with_content_of
+      (with_100rel support (record (request_outside own invite.call_id (codes "INVITE")
+      invite.request_uri invite.from invite.to invite.routes)
+      { contacts = contact_of own.local ∷ [] })) invite.content) invite.address
+
+  by_support : (invite : Invite) (clients : Clients) (support : ProvisionalSupport)
+      → IsFine invite.call_id (codes "INVITE") invite.content.body event
+      (start (clients, []) (invite_client invite support)).1
+  unfolding with_content_of
+  by_support invite clients support.None =
+      started_so invite.call_id (codes "INVITE") invite.content.body event
+      (invite_client invite support.None) refl refl refl
+      (other_method (codes "INVITE") (codes "BYE") refl) clients
+  by_support invite clients support.Supported =
+      started_so invite.call_id (codes "INVITE") invite.content.body event
+      (invite_client invite support.Supported) refl refl refl
+      (other_method (codes "INVITE") (codes "BYE") refl) clients
+  by_support invite clients support.Required =
+      started_so invite.call_id (codes "INVITE") invite.content.body event
+      (invite_client invite support.Required) refl refl refl
+      (other_method (codes "INVITE") (codes "BYE") refl) clients
+
+  invite_fine : (invite : Invite) (clients : Clients)
+      → IsFine invite.call_id (codes "INVITE") invite.content.body event
+      (invite_command own invite clients).1
+  unfolding invite_command
+  invite_fine invite clients = by_support invite clients invite.support
+
+  -- ---- another request outside of dialogs
+
+  last_false : (a b c : Bool) → (a || b || c) ≡ false → c ≡ false
+  last_false true b c is = absurd (false≢true (sym is))
+  last_false false true c is = absurd (false≢true (sym is))
+  last_false false false c is = is
+
+  abbrev plain_client : Plain → Client
+  plain_client plain = client_for event OutOfDialog (with_content_of
+      (request_outside own plain.call_id plain.method plain.request_uri plain.from plain.to
+      plain.routes) plain.content) plain.address
+
+  abbrev is_bad : Plain → Bool
+  is_bad plain = has_command plain.method || bytes_eq plain.method (codes "INVITE")
+      || bytes_eq plain.method (codes "BYE")
+
+  by_method : (plain : Plain) (clients : Clients) (bad : Bool) → is_bad plain ≡ bad
+      → IsFine plain.call_id plain.method plain.content.body event
+      (cond {A = Clients × List CallOut} bad (clients, refused event plain.call_id BadMethod)
+      (start (clients, []) (plain_client plain))).1
+  unfolding with_content_of
+  by_method plain clients true is =
+      refused_so plain.call_id plain.method plain.content.body event BadMethod
+  by_method plain clients false is =
+      started_so plain.call_id plain.method plain.content.body event (plain_client plain) refl refl
+      refl (other_method plain.method (codes "BYE") (last_false (has_command plain.method)
+      (bytes_eq plain.method (codes "INVITE")) (bytes_eq plain.method (codes "BYE")) is)) clients
+
+  plain_fine : (plain : Plain) (clients : Clients)
+      → IsFine plain.call_id plain.method plain.content.body event
+      (plain_command own plain clients).1
+  unfolding plain_command
+  plain_fine plain clients = by_method plain clients (is_bad plain) refl
+
+  -- ---- a request in a dialog
+
+  module _ (request : DialogRequest) where
+    abbrev IsFineIn : List CallOut → Type 0
+    IsFineIn = IsFine request.call_id request.method request.content.body event
 
     in_dialog : (side : Side) (name : DialogId) (held : HeldDialog)
         → lookup (is_dialog_id name) side.dialogs ≡ Some held
-        → IsFine (request_in_dialog own request side name held).1
+        → IsFineIn (request_in_dialog own request side name held).1
+    unfolding with_content_of
     in_dialog side name held is =
         let client : Client =
         request_with_next_number own name request.method None request.content held in
         let dialogs : Dialogs = set_value (is_dialog_id name) side.dialogs (with_number held) in
         let found = lookup_set (is_dialog_id name) side.dialogs held (with_number held) is in
-        or_fine (refuse own request.call_id side) _ (first_refusal
+        or_fine request.call_id request.method request.content.body event
+        (refuse own request.call_id side) _ (first_refusal
         ((has_command request.method, BadMethod) ∷ refusals_in held.dialog request.method) None)
-        (λ why none. refused_so why)
+        (λ why none. refused_so request.call_id request.method request.content.body event why)
         (inr (record {
-          bye = client.request;
-          method = its_method name held;
+          request = client.request;
+          method_is = refl;
+          body_is = refl;
           key = _;
           of = _;
           to = _;
           starts = among_first _ _;
-          held = with_number held;
-          ends = among_later _ _ (ended_notice (with_number held))
-              (subst (λ b. Contains (cond {A = Dialogs × List CallOut} b (ended_at name dialogs)
-              (dialogs, [])).1 (ended_notice (with_number held))) (sym is_bye)
-              (subst (λ o. Contains (option_map_or (λ held. ended_notice held ∷ []) o [])
-              (ended_notice (with_number held))) (sym found)
-              (among_first (ended_notice (with_number held)) [])));
+          ends = λ bye. (
+            with_number held,
+            among_later _ _ (ended_notice (with_number held))
+                (subst (λ b. Contains (cond {A = Dialogs × List CallOut} b
+                (ended_at name dialogs) (dialogs, [])).1 (ended_notice (with_number held)))
+                (sym ((bytes_eq-Decides request.method (codes "BYE")).1 bye))
+                (subst (λ o. Contains (option_map_or (λ held. ended_notice held ∷ []) o [])
+                (ended_notice (with_number held))) (sym found)
+                (among_first (ended_notice (with_number held)) []))),
+          );
         }))
 
-    by_rule : (side : Side) → IsFine (request_command own request side).1
+    by_rule : (side : Side) → IsFineIn (request_command own request side).1
     unfolding request_command
     by_rule side =
         let name = dialog_id_of_tags (tag_text request.local_tag) (tag_text request.remote_tag) in
-        or_fine (request_in_dialog own request side name) (refuse own request.call_id side NoSuchDialog)
-        (lookup (is_dialog_id name) side.dialogs) (in_dialog side name) (refused_so NoSuchDialog)
+        or_fine request.call_id request.method request.content.body event
+        (request_in_dialog own request side name) (refuse own request.call_id side NoSuchDialog)
+        (lookup (is_dialog_id name) side.dialogs) (in_dialog side name)
+        (refused_so request.call_id request.method request.content.body event NoSuchDialog)
 
-    at_input : (state : Option Call)
-        → IsFine (call_step calls state (Some (event, User (user.Request request))) now).1
-    at_input None = refused_so _
-    at_input (Some call) = by_rule (side_of call)
+  -- ---- any of them
+
+  abbrev At : UserCommand → Option Call → Type 0
+  At command state = (method body : List ℕ) → request_asked_by command ≡ Some (method, body)
+      → IsFine (call_of_command command) method body event
+      (call_step calls state (Some (event, User command)) now).1
+
+  of_pair : (call_id : List ℕ) (outs : List CallOut) (p q : List ℕ × List ℕ) → Some p ≡ Some q
+      → IsFine call_id p.0 p.1 event outs → IsFine call_id q.0 q.1 event outs
+  of_pair call_id outs p q same fine =
+      subst (λ (p : List ℕ × List ℕ). IsFine call_id p.0 p.1 event outs) (same_Some p q same) fine
+
+  at_input : (command : UserCommand) (state : Option Call) → At command state
+  at_input (user.Invite invite) None method body asks =
+      of_pair invite.call_id _ (codes "INVITE", invite.content.body) (method, body) asks
+      (invite_fine invite _)
+  at_input (user.Invite invite) (Some call) method body asks =
+      refused_so invite.call_id method body event _
+  at_input (user.Plain plain) None method body asks =
+      of_pair plain.call_id _ (plain.method, plain.content.body) (method, body) asks
+      (plain_fine plain _)
+  at_input (user.Plain plain) (Some call) method body asks =
+      refused_so plain.call_id method body event _
+  at_input (user.Request request) None method body asks =
+      refused_so request.call_id method body event _
+  at_input (user.Request request) (Some call) method body asks =
+      of_pair request.call_id _ (request.method, request.content.body) (method, body) asks
+      (by_rule request (side_of call))
+  at_input (user.Respond respond) state method body asks = absurd cc
+  at_input (user.Ack ack) state method body asks = absurd cc
+  at_input (user.Prack prack) state method body asks = absurd cc
+  at_input (user.Cancel cancel) state method body asks = absurd cc
+  at_input (user.AbandonRequest abandon) state method body asks = absurd cc
+  at_input (user.AbandonDialog abandon) state method body asks = absurd cc
 
 -- ---- what a call asks of a transaction is given to it
 
@@ -272,8 +408,10 @@ module _ (config : Config) (command : UserCommand) where
       (λ same. record {
         state = held first;
         among = subst (λ (i : model.Item (List ℕ) (Timed CallItem)).
-            Contains (((first.place, first.key),
-            (machine.step first.key (held first) first.input).1) ∷ rest)
+            Contains ((
+              (first.place, first.key),
+              (machine.step first.key (held first) first.input).1,
+            ) ∷ rest)
             ((i.place, i.key), (machine.step i.key (held first) i.input).1)) same
             (among_first _ rest);
       })
@@ -414,7 +552,7 @@ module _ (config : Config) (command : UserCommand) where
       (first_or_later one rounds round among)
 
   -- the command is given to its call; what that says, and asks at the same moment
-  record IsTaken (rounds : List Round) (round : Round) : Type 0 where
+  record IsTakenSo (rounds : List Round) (round : Round) : Type 0 where
     event : Id
     gave : Contains (call_inputs_of config rounds call_id)
         (given_at round.moment (event, User command))
@@ -427,7 +565,7 @@ module _ (config : Config) (command : UserCommand) where
         (given_at round.moment (asked_by id asked))
 
   taken : (rounds : List Round) (round : Round) → Contains rounds round
-      → Contains round.events (event.Command command) → IsTaken rounds round
+      → Contains round.events (event.Command command) → IsTakenSo rounds round
   unfolding past_of
   taken rounds round among has =
       let found = taken_from config.first no_past rounds round among has in
@@ -451,54 +589,61 @@ module _ (config : Config) (command : UserCommand) where
 
 module _ (config : Config)
     (alone : EachKeyAlone call_cmp (call_machine (calls_of config)) tick_at) where
-  module _ (rounds : List Round) (round : Round) (request : DialogRequest)
-      (so : IsTaken config (user.Request request) rounds round) where
-    abbrev outs : List CallOut
-    outs = outs_at config (user.Request request) so.state so.event round.moment
+  module _ (rounds : List Round) (round : Round) (command : UserCommand) (method body : List ℕ)
+      (so : IsTakenSo config command rounds round) where
+    abbrev of_call : List ℕ
+    of_call = call_of_command command
 
-    goes_out : Goes request so.event outs
-        → ByeGoesOut config rounds round.moment request.call_id so.event
+    abbrev outs : List CallOut
+    outs = outs_at config command so.state so.event round.moment
+
+    goes_out : Goes of_call method body so.event outs
+        → GoesOut config rounds of_call so.event round.moment method body
     goes_out goes =
-        let call_id = request.call_id in
-        let dialog = goes.held.dialog in
-        let ended = notice_given config rounds alone call_id (Ended dialog.call_id
-        (tag_text dialog.local.tag) (tag_text dialog.remote.tag))
-        (so.said (ended_notice goes.held) goes.ends) in
-        let asked = order.Start goes.key goes.of goes.bye goes.to in
+        let asked = order.Start goes.key goes.of goes.request goes.to in
         let says : CallSays config rounds (Command so.event asked) =
-        (call_id, so.said (Command so.event asked) goes.starts) in
+        (of_call, so.said (Command so.event asked) goes.starts) in
         let own = out_own config rounds alone (Command so.event asked) says in
-        let of_is : goes.of ≡ call_id = own.of_is ∙ own.own.call in
+        let of_is : goes.of ≡ of_call = own.of_is ∙ own.own.call in
         record {
-          local_tag = tag_text dialog.local.tag;
-          remote_tag = tag_text dialog.remote.tag;
-          ended = subst (λ (of : List ℕ). Contains (all_given (answers config rounds))
-              (output.Notice (Ended of (tag_text dialog.local.tag) (tag_text dialog.remote.tag))))
-              (sym ended.own) ended.given;
-          bye = goes.bye;
-          method = goes.method;
+          request = goes.request;
+          method_is = goes.method_is;
+          body_is = goes.body_is;
           key = goes.key;
           to = goes.to;
           started = subst (λ of. Contains (inputs_of config rounds goes.key)
-              (given_at round.moment (Start so.event of goes.bye goes.to))) of_is
+              (given_at round.moment (Start so.event of goes.request goes.to))) of_is
               (so.asked so.event asked goes.starts);
+          ends = λ bye.
+              let held = goes.ends bye in
+              let dialog = (held.0).dialog in
+              let ended = notice_given config rounds alone of_call (Ended dialog.call_id
+              (tag_text dialog.local.tag) (tag_text dialog.remote.tag))
+              (so.said (ended_notice held.0) held.1) in (
+                tag_text dialog.local.tag,
+                tag_text dialog.remote.tag,
+                subst (λ (of : List ℕ). Contains (all_given (answers config rounds))
+                    (output.Notice (Ended of (tag_text dialog.local.tag)
+                    (tag_text dialog.remote.tag)))) (sym ended.own) ended.given,
+              );
         }
 
-    refused : Refuses request so.event outs → IsRefused config rounds request.call_id so.event
-    refused refuses = record {
+    is_refused : Refuses of_call method body so.event outs
+        → IsRefused config rounds of_call so.event
+    is_refused refuses = record {
       why = refuses.why;
-      told = (notice_given config rounds alone request.call_id
-          (Refused request.call_id so.event.place refuses.why) (so.said _ refuses.told)).given;
+      told = (notice_given config rounds alone of_call
+          (Refused of_call so.event.place refuses.why) (so.said _ refuses.told)).given;
     }
 
-  pub byes_go_out : ByesGoOut config
-  byes_go_out rounds round among request has bye =
-      let so = taken config (user.Request request) rounds round among has in
+  pub requests_go_out : RequestsGoOut config
+  requests_go_out rounds round among command has method body asks =
+      let so = taken config command rounds round among has in
       record {
         event = so.event;
         gave = so.gave;
         done = ⊎_elim
-            (λ refuses. inl (refused rounds round request so refuses))
-            (λ goes. inr (goes_out rounds round request so goes))
-            (at_input request so.event bye (calls_of config) round.moment so.state);
+            (λ refuses. inl (is_refused rounds round command method body so refuses))
+            (λ goes. inr (goes_out rounds round command method body so goes))
+            (at_input so.event (calls_of config) round.moment command so.state method body asks);
       }
