@@ -50,9 +50,9 @@ pub fn requests_arrive(one: Config, other: Config)
 }
 
 /// In any rounds, a command of a user for a request (Invite, Plain or Request) is an input of its
-/// call. He is told that it is refused. Or at this moment a transaction is started with a request of
-/// this Call-ID, with the method and the body of the command (INVITE for Invite), under the id of
-/// its event. If it is a BYE, he is told of the end of a dialog of that call (RFC 3261, section
+/// call. He is told that it is refused. Or at this moment a transaction is started with a request
+/// of this Call-ID, with the method and the body of the command (INVITE for Invite), under the id
+/// of its event. If it is a BYE, he is told of the end of a dialog of that call (RFC 3261, section
 /// 15.1.1). `requests_arrive` says of such a start that the request arrives.
 pub fn requests_go_out(config: Config)
     ensures { RequestsGoOut config }

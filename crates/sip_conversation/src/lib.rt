@@ -1,5 +1,6 @@
 //! Laws of two agents over a network: whatever comes to one side, and whatever its user is told of,
-//! the other side sent.
+//! the other side sent. If the network delivers one of several copies, the requests that one side
+//! sends come to the other one.
 #![tactic(auto)]
 
 mod delivery;
