@@ -94,6 +94,7 @@ pub mod ComesUp
 pub mod SameRequest
 pub mod ToldOrAnswered
 pub mod RequestsGoOut
+pub mod AskedArrive
 pub mod FirstStart
 pub mod Begun
 pub mod RequestsArrive

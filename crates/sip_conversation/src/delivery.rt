@@ -2,7 +2,7 @@
 
 ghost use Rattle.std.specs.Prelude.{List};
 ghost use Rattle.sip_transactions.specs.Machine.{transaction_machine};
-ghost use Rattle.sip_conversation.specs.GoOut.{RequestsGoOut};
+ghost use Rattle.sip_conversation.specs.GoOut.{AskedArrive, RequestsGoOut};
 ghost use Rattle.sip_conversation.specs.Commands.{CommandsKeepTypes};
 ghost use Rattle.sip_conversation.specs.Conversation.{Carried, Turn, of_sides};
 ghost use Rattle.sip_conversation.specs.Copies.{EachRequestIsRepeated};
@@ -58,4 +58,18 @@ pub fn requests_go_out(config: Config)
     ensures { RequestsGoOut config }
 {
     sides_are_fair(&config, &config);
+}
+
+/// Both together, in a conversation as in `requests_arrive`. A user's command for a request, other
+/// than CANCEL, is refused, and he is told so; or its request goes out at once. If this is sent to
+/// the other side, isn't given up, none of its sends is reported to have failed, and its text has
+/// at most 65,535 bytes, it arrives there, by the latest moment of its last try and the delay: the
+/// other user is told of it, or the other agent responds by itself. After a BYE both users are told
+/// of the end of a dialog of the call, unless the other agent responds by itself.
+pub fn what_is_asked_for_arrives(one: Config, other: Config)
+    ensures { (turns : List Turn) → Carried (of_sides one other) turns
+        → CommandsKeepTypes turns
+        → AskedArrive (of_sides one other) turns }
+{
+    sides_are_fair(&one, &other);
 }
