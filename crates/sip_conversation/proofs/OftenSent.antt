@@ -1,10 +1,13 @@
 -- A request that isn't answered goes out at each moment of timer A or E.
-use Rattle.std.proofs.Common.{◌≡◌, ℕ, zero, suc, ◌+◌, ◌<◌, ◌≤◌, Bool, true, false, cond, ◌&&◌, ◌||◌, ◌==◌, List, [], ◌∷◌, ◌++◌, refl, sym, ◌∙◌, ap, subst, arith, codes, zero-add}
-use Rattle.std.specs.Prelude.{Option, None, Some, nat_le, not, option_and_then}
+use Rattle.std.proofs.Common.{◌≡◌, ℕ, zero, suc, ◌+◌, ◌<◌, ◌≤◌, Bool, true, false, cond, ◌&&◌, ◌||◌, ◌==◌, List, [], ◌∷◌, ◌++◌, refl, sym, ◌∙◌, ap, subst, arith, codes, zero-add, ◌-◌}
+use Rattle.std.specs.Prelude.{Option, None, Some, nat_le, not, option_and_then, min}
 use Rattle.std.specs.List.{list_any}
 use Rattle.std.specs.Str.{bytes_eq}
 use Rattle.std.proofs.lemmas.Bool.{false≢true}
 use Rattle.std.proofs.lemmas.List.Sums.{sum_by-append}
+use Rattle.std.proofs.lemmas.Slice.Eq.{bytes_eq-Decides}
+use Rattle.std.proofs.lemmas.Bool.Decides.{Decides-eqb}
+use native.Mathlib.Decide.{dec_le}
 use Rattle.sip_message.specs.declared.addr.Addr.{Addr}
 use Rattle.sip_message.specs.declared.id.Id.{Id}
 use Rattle.sip_message.specs.declared.key.Key.{Key}
@@ -14,6 +17,7 @@ use Rattle.sip_message.specs.declared.start_line.StartLine.{StartLine}
 use Rattle.sip_message.specs.declared.start_line.StartLine.TheVariants as start
 use Rattle.sip_message.specs.Message.{is_request_line, is_request_message}
 use Rattle.sip_message.specs.Written.{written}
+use Rattle.sip_timers.specs.Earlier.{earlier}
 use Rattle.keyed_machine.specs.Machine.{Timed, given_at, outputs_from, tick_at}
 use Rattle.sip_transactions.specs.declared.input.Input.{Input}
 use Rattle.sip_transactions.specs.declared.input.Input.TheVariants.{Receive, Start, Answer, Failed, Abandon}
@@ -32,15 +36,9 @@ use Rattle.sip_transactions.specs.declared.trigger.Trigger.TheVariants as on
 use Rattle.sip_transactions.specs.Rows.{row_of, rows_of}
 use Rattle.sip_transactions.specs.Rules.Timers.{interval}
 use Rattle.sip_transactions.specs.Steps.Input.{answer_of, arrival_of, class_of, is_same_method, role_of}
-use Rattle.sip_transactions.proofs.RowFacts.{by_test}
 use Rattle.sip_transactions.specs.Steps.Life.{acted_if, begun, context_of, life_after, state_of, step_for, step_machine, stepped}
 use Rattle.sip_transactions.specs.Steps.Output.{handed_out, made_of, outputs_of}
-use Rattle.sip_timers.specs.Earlier.{earlier}
-use Rattle.std.specs.Prelude.{min}
-use native.Mathlib.Decide.{dec_le}
-use Rattle.std.proofs.Common.{◌-◌}
-use Rattle.std.proofs.lemmas.Slice.Eq.{bytes_eq-Decides}
-use Rattle.std.proofs.lemmas.Bool.Decides.{Decides-eqb}
+use Rattle.sip_transactions.proofs.RowFacts.{by_test}
 use Rattle.sip_conversation.specs.Copies.{EachRequestIsRepeated, TicksInTime, copies, ends_by, ends_wait, is_address, is_copy, is_invite, latest_repeat}
 
 -- ---- an input, by the table of a role
@@ -64,7 +62,7 @@ pace_at invite = cond invite Doubled Capped
 
 -- ---- a client that waits for its first response
 
--- what doesn't change while it waits: whether it is one of an INVITE, ..
+-- what doesn't change while it waits
 record Setup : Type 0 where
   key : Key
   id : Id

@@ -9,18 +9,22 @@ use Rattle.std.specs.Option.{option_map_or}
 use Rattle.std.specs.Str.{bytes_eq}
 use Rattle.std.proofs.lemmas.List.Elements.{Contains-append_left, Contains-append_right}
 use Rattle.std.proofs.lemmas.Slice.Eq.{bytes_eq-Decides}
+use Rattle.std.proofs.lemmas.Cmp.{nat_list_cmp_total}
+use Rattle.std.proofs.lemmas.Bool.{false≢true}
+use Rattle.std.proofs.lemmas.Option.{same_Some}
 use Rattle.sip_message.specs.declared.addr.Addr.{Addr}
 use Rattle.sip_message.specs.declared.id.Id.{Id}
 use Rattle.sip_message.specs.declared.key.Key.{Key}
 use Rattle.sip_message.specs.declared.message.Message.{Message}
-use Rattle.sip_message.specs.Key.{key_cmp, keys_total}
+use Rattle.sip_message.specs.Key.{key_cmp, keys_total, client_key}
+use Rattle.sip_message.specs.Content.{with_content_of}
+use Rattle.sip_message.specs.TopVia.{top_branch}
 use Rattle.keyed_machine.specs.declared.item.Item as model
 use Rattle.keyed_machine.specs.Laws.{EachKeyAlone, said_by}
 use Rattle.keyed_machine.specs.Machine.{Machine, Timed, given_at, state_from, tick_at}
 use Rattle.keyed_machine.specs.Phase.{Phase, history, own_inputs, timed_item, timed_items}
 use Rattle.keyed_machine.specs.Rules.{said_since, said_to}
 use Rattle.keyed_machine.proofs.Ordered.{is_at_itself}
-use Rattle.std.proofs.lemmas.Cmp.{nat_list_cmp_total}
 use Rattle.sip_transactions.specs.declared.input.Command.TheVariants as order
 use Rattle.sip_transactions.specs.declared.input.Command.{Command as Order}
 use Rattle.sip_transactions.specs.declared.input.Input.{Input}
@@ -38,15 +42,21 @@ use Rattle.sip_user.specs.declared.item.Item.TheVariants.{User}
 use Rattle.sip_user.specs.declared.notice.Notice.TheVariants.{Ended, Refused}
 use Rattle.sip_user.specs.declared.refusal.Refusal.{Refusal}
 use Rattle.sip_user.specs.declared.refusal.Refusal.TheVariants.{BadMethod, NoSuchDialog}
+use Rattle.sip_user.specs.Notices.{refused}
+use Rattle.sip_user.specs.declared.command.Invite.{Invite}
+use Rattle.sip_user.specs.declared.command.Plain.{Plain}
+use Rattle.sip_user.specs.declared.command.ProvisionalSupport.{ProvisionalSupport}
+use Rattle.sip_user.specs.declared.command.ProvisionalSupport.TheVariants as support
+use Rattle.sip_dialog.specs.Request.{contact_of}
 use Rattle.sip_held_dialogs.specs.declared.held_dialog.DialogId.{DialogId}
 use Rattle.sip_held_dialogs.specs.declared.held_dialog.HeldDialog.{HeldDialog}
 use Rattle.sip_held_dialogs.specs.Dialogs.{Dialogs, ended_at, ended_notice, is_dialog_id, tag_text}
 use Rattle.sip_held_dialogs.specs.Requests.{dialog_id_of_tags}
 use Rattle.sip_clients.specs.declared.client.Client.{Client}
 use Rattle.sip_clients.specs.declared.event.Event.{Event}
-use Rattle.sip_clients.specs.Client.{ClientTaken, Side}
-use Rattle.sip_clients.specs.Rules.Requests.{has_command, refusals_in, refuse, request_command, request_in_dialog, request_with_next_number, start, with_number}
-use Rattle.sip_message.specs.Content.{with_content_of}
+use Rattle.sip_clients.specs.Client.{ClientTaken, Side, Clients, client_for}
+use Rattle.sip_clients.specs.Rules.Requests.{has_command, refusals_in, refuse, request_command, request_in_dialog, request_with_next_number, start, with_number, invite_command, plain_command, request_outside, with_100rel}
+use Rattle.sip_clients.specs.declared.client.RequestKind.TheVariants.{InitialInvite, OutOfDialog}
 use Rattle.sip_calls.specs.declared.call.Call.{Call}
 use Rattle.sip_calls.specs.declared.calls.Calls.{Calls}
 use Rattle.sip_calls.specs.Call.{CallItem, call_machine, call_step, event_of, side_of}
@@ -72,19 +82,6 @@ use Rattle.sip_conversation.proofs.ComesUp.{call_given, item_at}
 use Rattle.sip_conversation.proofs.RequestsAsked.{out_own}
 use Rattle.sip_conversation.proofs.Rounds.{transactions_are, transactions_from}
 use Rattle.sip_conversation.proofs.ToldOrAnswered.{lookup_set, notice_given}
-use Rattle.std.proofs.lemmas.Bool.{false≢true}
-use Rattle.std.proofs.lemmas.Option.{same_Some}
-use Rattle.sip_message.specs.Key.{client_key}
-use Rattle.sip_message.specs.TopVia.{top_branch}
-use Rattle.sip_dialog.specs.Request.{contact_of}
-use Rattle.sip_user.specs.Notices.{refused}
-use Rattle.sip_user.specs.declared.command.Invite.{Invite}
-use Rattle.sip_user.specs.declared.command.Plain.{Plain}
-use Rattle.sip_user.specs.declared.command.ProvisionalSupport.{ProvisionalSupport}
-use Rattle.sip_user.specs.declared.command.ProvisionalSupport.TheVariants as support
-use Rattle.sip_clients.specs.declared.client.RequestKind.TheVariants.{InitialInvite, OutOfDialog}
-use Rattle.sip_clients.specs.Client.{Clients, client_for}
-use Rattle.sip_clients.specs.Rules.Requests.{invite_command, plain_command, request_outside, with_100rel}
 
 -- ---- by the rule
 

@@ -7,13 +7,15 @@ use Rattle.std.specs.Map.{lookup, set_value}
 use Rattle.std.proofs.lemmas.Bool.{false≢true}
 use Rattle.std.proofs.lemmas.Cmp.{nat_list_cmp_total}
 use Rattle.std.proofs.lemmas.Map.Lookups.{exact_bytes}
-use Rattle.keyed_machine.proofs.Ordered.{by_bool}
 use Rattle.sip_message.specs.declared.addr.Addr.{Addr}
 use Rattle.sip_message.specs.declared.id.Id.{Id}
 use Rattle.sip_message.specs.declared.message.Message.{Message}
 use Rattle.sip_message.specs.declared.rack.RAck.{RAck}
 use Rattle.sip_message.specs.declared.start_line.StartLine.TheVariants.{Response}
 use Rattle.sip_message.specs.Party.{tag_of}
+use Rattle.keyed_machine.specs.Laws.{EachKeyAlone}
+use Rattle.keyed_machine.specs.Machine.{Timed, given_at, outputs_from, tick_at}
+use Rattle.keyed_machine.proofs.Ordered.{by_bool, exact_at}
 use Rattle.sip_transactions.specs.declared.input.Command.TheVariants.{Answer}
 use Rattle.sip_transactions.specs.declared.output.Up.{Up as AnUp}
 use Rattle.sip_transactions.specs.declared.output.UpKind.{UpKind}
@@ -38,9 +40,6 @@ use Rattle.sip_calls.specs.Call.{CallItem, Taken, call_machine, call_step, event
 use Rattle.sip_calls.specs.CallShard.{call_cmp}
 use Rattle.sip_calls.specs.Histories.{call_from}
 use Rattle.sip_calls.specs.OwnCall.{call_of_notice}
-use Rattle.keyed_machine.specs.Laws.{EachKeyAlone}
-use Rattle.keyed_machine.specs.Machine.{Timed, given_at, outputs_from, tick_at}
-use Rattle.keyed_machine.proofs.Ordered.{exact_at}
 use Rattle.sip_round.specs.declared.config.Config.{Config}
 use Rattle.sip_round.specs.declared.output.Output.TheVariants as output
 use Rattle.sip_round.specs.declared.round.Round.{Round}
@@ -50,9 +49,9 @@ use Rattle.sip_round.specs.Laws.{call_inputs_of, said_of_call}
 use Rattle.sip_round.proofs.GivenNotices.{notices_given}
 use Rattle.sip_round.proofs.Said.{call_alone}
 use Rattle.sip_conversation.specs.Messages.{ComesUp}
+use Rattle.sip_conversation.specs.Delivery.{IsAnsweredThere, IsTold, is_own_status}
 use Rattle.sip_conversation.proofs.AmongInputs.{out_of_one_input}
 use Rattle.sip_conversation.proofs.UpTo.{stands_at}
-use Rattle.sip_conversation.specs.Delivery.{IsAnsweredThere, IsTold, is_own_status}
 use Rattle.sip_conversation.proofs.Among.{among_first, among_later, in_all_of, kept_among}
 
 -- ---- a dialog that is held stays after a change

@@ -12,9 +12,9 @@ use Rattle.sip_transactions.specs.declared.life.Life.{Life}
 use Rattle.sip_transactions.specs.Machine.{transaction_machine}
 use Rattle.sip_round.specs.declared.round.Round.{Round}
 use Rattle.sip_conversation.specs.Conversation.{Side, Turn, is_side, rounds_of}
-use Rattle.sip_conversation.specs.Conversation as side
 use Rattle.sip_conversation.specs.Copies.{TicksInTime}
 use Rattle.sip_conversation.specs.Delivery.{ShareAClock}
+use Rattle.sip_conversation.proofs.Fronts.{own_side}
 use Rattle.sip_conversation.proofs.OftenSent.{or_false}
 use Rattle.sip_conversation.proofs.RoundInputs.{RoundsRise}
 use Rattle.sip_conversation.proofs.Among.{all_go, among_first, among_kept, among_later, among_mapped, first_or_later, kept_among, mapped_among, none_among}
@@ -93,10 +93,6 @@ module _ (s : Side) where
   rounds_rise (turn ∷ turns) clock =
       kept_rise (is_side s turn.side) turn (filter (λ t. is_side s t.side) turns)
       (rounds_at (λ m. (turn.round).moment ≤ m) s turns clock.0) (rounds_rise turns clock.1)
-
-own_side : (s : Side) → is_side s s ≡ true
-own_side side.One = refl
-own_side side.Other = refl
 
 pub own_round : (s : Side) (turns : List Turn) (turn : Turn) → Contains turns turn
     → turn.side ≡ s → Contains (rounds_of s turns) turn.round

@@ -17,7 +17,6 @@ use Rattle.sip_message.specs.MessageKey.{key_of_message}
 use Rattle.sip_message.specs.TopVia.{top_branch}
 use Rattle.sip_message.specs.Via.{branch_of}
 use Rattle.keyed_machine.specs.Machine.{given_at, outputs_from}
-use Rattle.sip_clients.specs.Clients.{status_of}
 use Rattle.sip_transactions.specs.declared.input.Command.TheVariants as order
 use Rattle.sip_transactions.specs.declared.input.Input.{Input}
 use Rattle.sip_transactions.specs.declared.input.Input.TheVariants as input
@@ -26,6 +25,7 @@ use Rattle.sip_transactions.specs.declared.output.Out.TheVariants as out
 use Rattle.sip_transactions.specs.Machine.{transaction_machine}
 use Rattle.sip_user.specs.declared.item.CallOut.{CallOut}
 use Rattle.sip_user.specs.declared.item.CallOut.TheVariants as call_out
+use Rattle.sip_clients.specs.Clients.{status_of}
 use Rattle.sip_round.specs.declared.config.Config.{Config}
 use Rattle.sip_round.specs.declared.round.Round.{Round}
 use Rattle.sip_round.specs.Answers.{no_past, past_of}
