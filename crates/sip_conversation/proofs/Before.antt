@@ -1,5 +1,5 @@
 -- The other side said what comes in a turn in the turns before it.
-use Rattle.std.proofs.Common.{◌≡◌, Bool, true, List, [], ◌∷◌, ◌++◌, refl, subst}
+use Rattle.std.proofs.Common.{Bool, List, [], ◌∷◌, ◌++◌, subst}
 use Rattle.std.specs.Prelude.{Contains, IfSome, Option, None, Some}
 use Rattle.std.proofs.lemmas.List.Elements.{Contains-push}
 use Rattle.sip_message.specs.declared.message.Message.{Message}
@@ -11,11 +11,10 @@ use Rattle.keyed_machine.specs.Machine.{tick_at}
 use Rattle.sip_transactions.specs.Machine.{transaction_machine}
 use Rattle.sip_round.specs.declared.config.Config.{Config}
 use Rattle.sip_conversation.specs.Conversation.{Carried, Side, Turn, is_side, peer, rounds_of}
-use Rattle.sip_conversation.specs.Conversation as side
 use Rattle.sip_conversation.specs.Datagrams.{DatagramsAreTextsSaid}
 use Rattle.sip_conversation.specs.Messages.{CallsHearUnchanged, CallsKeepRules, ComesUnchanged, IsSaid, MessagesComeUnchanged, message_up}
 use Rattle.sip_conversation.proofs.Among.{among_kept, mapped_among}
-use Rattle.sip_conversation.proofs.Fronts.{carried_to, keeps_to, peer_rounds, sent_before}
+use Rattle.sip_conversation.proofs.Fronts.{carried_to, keeps_to, own_side, peer_rounds, sent_before}
 use Rattle.sip_conversation.proofs.Unchanged.{calls_hear, datagrams_said, messages_unchanged}
 
 comes_before : (configs : Side → Config) (before : List Turn) (turn : Turn) (message : Message)
@@ -37,10 +36,6 @@ if_before : (configs : Side → Config) (before : List Turn) (turn : Turn) (o : 
 if_before configs before turn None comes = tt
 if_before configs before turn (Some message) comes =
     comes_before configs before turn message comes
-
-own_side : (s : Side) → is_side s s ≡ true
-own_side side.One = refl
-own_side side.Other = refl
 
 -- the last turn belongs to its own side
 last_round : (before : List Turn) (turn : Turn)

@@ -1,6 +1,6 @@
 -- A front of a carried conversation is carried, and its rounds are counted if all are; its last
 -- turn adds nothing to what the other side says.
-use Rattle.std.proofs.Common.{◌≡◌, ℕ, ◌<◌, ◌^◌, false, cond, List, [], ◌∷◌, ◌++◌, length, map, refl, sym, ap, ◌∙◌, subst, append-nil, append_assoc, length-append, arith}
+use Rattle.std.proofs.Common.{◌≡◌, ℕ, ◌<◌, ◌^◌, true, false, cond, List, [], ◌∷◌, ◌++◌, length, map, refl, sym, ap, ◌∙◌, subst, append-nil, append_assoc, length-append, arith}
 use Rattle.sip_round.specs.declared.config.Config.{Config}
 use Rattle.sip_round.specs.declared.round.Round.{Round}
 use Rattle.sip_conversation.specs.Conversation.{AgentSends, Carried, CarriedAfter, Side, Turn, WasSent, is_side, peer, rounds_of}
@@ -17,7 +17,7 @@ module _ (configs : Side → Config) where
   carried_front start (turn ∷ front) more carried =
       (carried.0, carried_front (start ++ turn ∷ []) front more carried.1)
 
-  front_carried : (front more : List Turn) → Carried configs (front ++ more)
+  pub front_carried : (front more : List Turn) → Carried configs (front ++ more)
       → Carried configs front
   front_carried front more carried = carried_front [] front more carried
 
@@ -82,6 +82,10 @@ counted_to config s turns before after turn same few =
     ∙ rounds_of-append s front after) few)
 
 -- ---- a turn of one side isn't one of the other side
+
+pub own_side : (s : Side) → is_side s s ≡ true
+own_side side.One = refl
+own_side side.Other = refl
 
 other_side : (s : Side) → is_side (peer s) s ≡ false
 other_side side.One = refl

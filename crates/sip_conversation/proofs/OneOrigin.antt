@@ -14,6 +14,7 @@ use Rattle.sip_message.specs.Written.{written}
 use Rattle.keyed_machine.specs.Laws.{EachKeyAlone}
 use Rattle.keyed_machine.specs.Machine.{tick_at}
 use Rattle.sip_transactions.specs.declared.input.Command.TheVariants as order
+use Rattle.sip_user.specs.declared.item.CallOut.{CallOut}
 use Rattle.sip_user.specs.declared.item.CallOut.TheVariants as call_out
 use Rattle.sip_clients.specs.Name.{name_of}
 use Rattle.sip_clients.proofs.Names.{names_differ}
@@ -85,23 +86,33 @@ module _ (config : Config) (rounds : List Round)
     pub to : Addr
     pub says : CallSays config rounds (call_out.Command id (order.Start key at request to))
 
-  pub one_request : AreCounted config rounds → (one other : Message) → IsStartedHere one
-      → IsStartedHere other → (one.cseq.method ≡ codes "CANCEL" → ⊥)
+  abbrev pub start_of : (request : Message) → IsStartedHere request → CallOut
+  start_of request here = call_out.Command here.id (order.Start here.key here.at request here.to)
+
+  pub same_start : AreCounted config rounds → (one other : Message) → (here : IsStartedHere one)
+      → (there : IsStartedHere other) → (one.cseq.method ≡ codes "CANCEL" → ⊥)
       → (other.cseq.method ≡ codes "CANCEL" → ⊥)
-      → lower (top_branch one) ≡ lower (top_branch other) → one ≡ other
-  one_request few one other here there no_cancel none same =
-      let out = call_out.Command here.id (order.Start here.key here.at one here.to) in
-      let out_there = call_out.Command there.id (order.Start there.key there.at other there.to) in
+      → lower (top_branch one) ≡ lower (top_branch other)
+      → start_of one here ≡ start_of other there
+  same_start few one other here there no_cancel none same =
+      let out = start_of one here in
+      let out_there = start_of other there in
       let own = (out_own config rounds alone out here.says).own in
       let own_there = (out_own config rounds alone out_there there.says).own in
       let event = one_event few (here.says).0 (there.says).0 (top_branch one) (top_branch other)
       own.branch own_there.branch same in
       let ids : here.id ≡ there.id =
       sym (own.event_is no_cancel) ∙ (event ∙ own_there.event_is none) in
-      ap (started_with one)
-      (one_start config rounds there.id out out_there
+      one_start config rounds there.id out out_there
       (calls_say config rounds out here.says) (calls_say config rounds out_there there.says)
-      (ap (λ i. Some i) ids) refl)
+      (ap (λ i. Some i) ids) refl
+
+  pub one_request : AreCounted config rounds → (one other : Message) → IsStartedHere one
+      → IsStartedHere other → (one.cseq.method ≡ codes "CANCEL" → ⊥)
+      → (other.cseq.method ≡ codes "CANCEL" → ⊥)
+      → lower (top_branch one) ≡ lower (top_branch other) → one ≡ other
+  one_request few one other here there no_cancel none same =
+      ap (started_with one) (same_start few one other here there no_cancel none same)
 
   -- a request that is said and is no ACK is one that a transaction was to start
   pub said_starts : (request : Message) → IsSaid config rounds request → IsMessage request

@@ -121,7 +121,7 @@ module _ {K S I O : Type 0} (cmp : K → K → Ordering) (machine : Machine K S 
         let one = in_one_of (λ group. group.1) (filter test groups) o among in
         in_all_of (λ group. group.1) groups one.0 o (kept_among test groups one.0 one.1).0 one.2
 
-    in_all : (key : K) (told : PhaseOutputs K O) (o : O)
+    pub in_all : (key : K) (told : PhaseOutputs K O) (o : O)
         → Contains (said_by cmp machine tick key told) o → Contains (all_said told) o
     in_all key told o among =
         ⊎_elim

@@ -12,4 +12,7 @@ pub mod Requests
 pub mod AckedResponses
 pub mod Acks
 pub mod ToldPracks
+pub mod Copies
+pub mod Delivery
+pub mod GoOut
 pub mod Steps

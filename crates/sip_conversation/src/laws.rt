@@ -239,7 +239,7 @@ pub fn calls_keep_rules(one: Config, other: Config)
 }
 
 // What the laws rest on, of both sides.
-fn sides_are_fair(one: &Config, other: &Config)
+pub(crate) fn sides_are_fair(one: &Config, other: &Config)
     ensures { IsFair (of_sides one.now other.now) }
 {
     numbers_fit(one.local);

@@ -1,0 +1,75 @@
+//! Laws of what arrives, over a network that delivers.
+
+ghost use Rattle.std.specs.Prelude.{List};
+ghost use Rattle.sip_transactions.specs.Machine.{transaction_machine};
+ghost use Rattle.sip_conversation.specs.GoOut.{AskedArrive, RequestsGoOut};
+ghost use Rattle.sip_conversation.specs.Commands.{CommandsKeepTypes};
+ghost use Rattle.sip_conversation.specs.Conversation.{Carried, Turn, of_sides};
+ghost use Rattle.sip_conversation.specs.Copies.{EachRequestIsRepeated};
+ghost use Rattle.sip_conversation.specs.Delivery.{RequestsArrive};
+
+use crate::laws::sides_are_fair;
+use sip_round::Config;
+
+/// A client's request goes out when it is started, and again at each moment of timer A (an INVITE)
+/// or timer E: after T1, then after that interval doubled each time, which for timer E is at most
+/// T2 (RFC 3261, sections 17.1.1.2 and 17.1.2.2). Let each tick come at most `lag` ms after what it
+/// finds due. If one comes after the latest moment of so many repeats, all of them have gone out
+/// before it, with the same bytes, to the same address. Only a response ends this, or timer B or F,
+/// the user, who gives the request up, or a failed send. So with no lag a request goes out 11 times
+/// in 64*T1, an INVITE 7 times; by `few_sends` of sip_transactions it never goes out more often.
+pub fn a_request_is_repeated()
+    ensures { EachRequestIsRepeated transaction_machine }
+{}
+
+/// A conversation in which datagrams may be lost, duplicated, late or out of order, but not all of
+/// them. The moments of its turns are of one clock. Each side runs its next round at most `lag` ms
+/// after a timer of a transaction is due. Of any so many copies of a datagram that a side sends to
+/// the other one, one after another, one at least comes within `delay` ms. Then each request that a
+/// side sends to the other one arrives, if it isn't given up, none of its sends is reported to have
+/// failed, and its text has at most 65,535 bytes. Its tries are the request and its repeats (see
+/// `a_request_is_repeated`). It arrives by the latest moment of its last try and that delay, if
+/// these are before timer B or F fires. So this is said of 11 tries of a request other than INVITE
+/// if 10 lags and the delay are below 500 ms, of 10 if 9 lags and the delay are below 4,500 ms, of
+/// 9 if 8 lags and the delay are below 8,500 ms; and of 6 tries of an INVITE if 5 lags and the
+/// delay are below 16,500 ms.
+///
+/// The request comes up to the call of its Call-ID, as it was sent, except for the stamp. The other
+/// user is told of it, and of the end of a dialog of that call if it is a BYE. Or the other agent
+/// gives the final response by itself: 420, 481, 482 or 500, or 200 to a PRACK. As long as its
+/// transaction is held there, the request comes up once (`one_request_up` of sip_transactions).
+///
+/// This isn't said of a CANCEL. The rounds of the side that sends have numbers below 2^64 and fewer
+/// than 2^64 events each. If the last try or the delay ends after timer B or F, nothing is said.
+pub fn requests_arrive(one: Config, other: Config)
+    ensures { (turns : List Turn) → Carried (of_sides one other) turns
+        → CommandsKeepTypes turns
+        → RequestsArrive (of_sides one other) turns }
+{
+    sides_are_fair(&one, &other);
+}
+
+/// In any rounds, a command of a user for a request (Invite, Plain or Request) is an input of its
+/// call. He is told that it is refused. Or at this moment a transaction is started with a request
+/// of this Call-ID, with the method and the body of the command (INVITE for Invite), under the id
+/// of its event. If it is a BYE, he is told of the end of a dialog of that call (RFC 3261, section
+/// 15.1.1). `requests_arrive` says of such a start that the request arrives.
+pub fn requests_go_out(config: Config)
+    ensures { RequestsGoOut config }
+{
+    sides_are_fair(&config, &config);
+}
+
+/// Both together, in a conversation as in `requests_arrive`. A user's command for a request, other
+/// than CANCEL, is refused, and he is told so; or its request goes out at once. If this is sent to
+/// the other side, isn't given up, none of its sends is reported to have failed, and its text has
+/// at most 65,535 bytes, it arrives there, by the latest moment of its last try and the delay: the
+/// other user is told of it, or the other agent responds by itself. After a BYE both users are told
+/// of the end of a dialog of the call, unless the other agent responds by itself.
+pub fn what_is_asked_for_arrives(one: Config, other: Config)
+    ensures { (turns : List Turn) → Carried (of_sides one other) turns
+        → CommandsKeepTypes turns
+        → AskedArrive (of_sides one other) turns }
+{
+    sides_are_fair(&one, &other);
+}
