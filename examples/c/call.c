@@ -34,6 +34,7 @@ static uint8_t datagram[65536];
 static uint8_t texts[65536];
 static sip_ua agent = SIP_UA_NONE;
 static int udp;
+static sip_ua_address peer;
 static uint64_t moment;
 /* The INVITE, its own tag, the peer's once it is answered, its BYE; when to hang up or to cancel. */
 static sip_ua_id invite, bye;
@@ -92,8 +93,8 @@ static void fail(const sip_ua_typed_output *output)
     has_events = true;
 }
 
-/* Takes what ICMP says of ports that are closed: the request whose method and branch it quotes
- * fails. Without Linux, and where a branch is no longer held, nothing happens. */
+/* Takes what ICMP says of the peer's port, if it is closed: the request whose method and branch it
+ * quotes fails. Without Linux, and where a branch is no longer held, nothing happens. */
 static void take_refusals(void)
 {
 #ifdef __linux__
@@ -101,8 +102,10 @@ static void take_refusals(void)
     union { struct cmsghdr first; uint8_t room[512]; } told;
     char method[32], branch[128], line[192];
     for (;;) {
+        struct sockaddr_in to = { 0 };
         struct iovec room = { quote, sizeof quote - 1 };
-        struct msghdr message = { .msg_iov = &room, .msg_iovlen = 1, .msg_control = &told,
+        struct msghdr message = { .msg_name = &to, .msg_namelen = sizeof to, .msg_iov = &room,
+                                  .msg_iovlen = 1, .msg_control = &told,
                                   .msg_controllen = sizeof told };
         ssize_t len = recvmsg(udp, &message, MSG_ERRQUEUE | MSG_DONTWAIT);
         uint32_t error = 0;
@@ -111,7 +114,8 @@ static void take_refusals(void)
         quote[len] = '\0';
         if (CMSG_FIRSTHDR(&message) != NULL)
             memcpy(&error, CMSG_DATA(CMSG_FIRSTHDR(&message)), sizeof error);
-        if (error != ECONNREFUSED
+        if (error != ECONNREFUSED || memcmp(&to.sin_addr, peer.ip, 4) != 0
+            || to.sin_port != htons(peer.port)
             || sscanf(quote, "%31s %*s SIP/2.0 Via: %*[^\r;];rport;branch=%127[^\r;]", method,
                       branch) != 2)
             continue;
@@ -268,7 +272,7 @@ static void run(void)
 }
 
 /* Calls: sends an INVITE with an offer and a header of the program's own. */
-static void call(const sip_ua_address *peer, const char *uri, const char *own)
+static void call(const char *uri, const char *own)
 {
     sip_ua_asked told;
     sip_ua_header headers[] = {
@@ -277,7 +281,7 @@ static void call(const sip_ua_address *peer, const char *uri, const char *own)
     };
     sip_ua_invite_fields fields = {
         .call_id = sip_ua_string(CALL_ID),
-        .address = *peer,
+        .address = peer,
         .request_uri = sip_ua_string(uri),
         .from = sip_ua_string(own),
         .to = sip_ua_string(uri),
@@ -325,7 +329,6 @@ int main(int count, char **words)
     sip_ua_configuration configuration = { 0 };
     struct sockaddr_in local = { .sin_family = AF_INET };
     struct in_addr peer_ip;
-    sip_ua_address peer;
     char own[128];
     if (count != 7 || inet_pton(AF_INET, words[1], &local.sin_addr) != 1
         || inet_pton(AF_INET, words[3], &peer_ip) != 1) {
@@ -349,7 +352,7 @@ int main(int count, char **words)
     memcpy(peer.ip, &peer_ip, 4);
     peer.port = (uint16_t)atoi(words[4]);
     snprintf(own, sizeof own, "sip:me@%s:%u", words[1], (unsigned)configuration.local.port);
-    call(&peer, words[5], own);
+    call(words[5], own);
     until = now() + PATIENCE_MS;
     while (!is_over || has_events) {
         struct pollfd waiting = { .fd = udp, .events = POLLIN };

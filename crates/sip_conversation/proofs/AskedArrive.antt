@@ -1,5 +1,5 @@
 -- What a user asks for arrives.
-use Rattle.std.proofs.Common.{◌≡◌, inl, inr, ⊎_elim, ◌+◌, ◌≤◌, false, List, length, ap, ◌∙◌, subst}
+use Rattle.std.proofs.Common.{◌≡◌, ◌+◌, ◌≤◌, false, List, length, ap, ◌∙◌, subst}
 use Rattle.std.specs.Prelude.{Contains}
 use Rattle.std.specs.List.{list_any}
 use Rattle.std.specs.Str.{str_to_ascii_lowercase}
@@ -15,7 +15,7 @@ use Rattle.sip_round.specs.declared.config.Config.{Config}
 use Rattle.sip_round.specs.Laws.{inputs_of}
 use Rattle.sip_conversation.specs.Conversation.{Carried, Side, Turn, peer, rounds_of}
 use Rattle.sip_conversation.specs.Copies.{latest_repeat, pace_of}
-use Rattle.sip_conversation.specs.Delivery.{ArrivesBy, IsUnderWay, is_lost}
+use Rattle.sip_conversation.specs.Delivery.{ArrivesBy, IsUnderWay, is_lost, longest_datagram}
 use Rattle.sip_conversation.specs.GoOut.{AskedArrive, GoesOut}
 use Rattle.sip_conversation.specs.Messages.{CallsKeepRules}
 use Rattle.sip_conversation.specs.Steps.Fair.{IsFair}
@@ -31,18 +31,11 @@ asked_arrive configs fair turns carried keep lag repeats delay clock runs delive
     let config = configs side in
     let rounds = rounds_of side turns in
     let taken = requests_go_out config (fair.calls side) rounds round among command has method body
-    asks in (
-      taken.event,
-      ⊎_elim (λ refused. inl refused) (λ goes. inr (
-        goes,
-        λ to short kept.
-            arrives taken.event goes to short kept,
-      )) taken.done,
-    )
+    asks in (taken, λ goes to short kept. arrives taken.event goes to short kept)
   where
     arrives : (event : _) (goes : GoesOut (configs side) (rounds_of side turns)
         (call_of_command command) event round.moment method body)
-        → goes.to ≡ (configs (peer side)).local → length (written goes.request) ≤ 65535
+        → goes.to ≡ (configs (peer side)).local → length (written goes.request) ≤ longest_datagram
         → list_any (λ timed. is_lost timed.input)
         (inputs_of (configs side) (rounds_of side turns) goes.key) ≡ false
         → ArrivesBy configs turns side goes.request

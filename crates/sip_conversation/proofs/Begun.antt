@@ -23,7 +23,7 @@ use Rattle.sip_round.specs.declared.round.Round.{Round}
 use Rattle.sip_round.specs.Laws.{inputs_of}
 use Rattle.sip_conversation.specs.Conversation.{Side, Turn, peer, rounds_of}
 use Rattle.sip_conversation.specs.Copies.{is_invite}
-use Rattle.sip_conversation.specs.Delivery.{IsUnderWay, ShareAClock, is_lost}
+use Rattle.sip_conversation.specs.Delivery.{IsUnderWay, ShareAClock, is_lost, longest_datagram}
 use Rattle.sip_conversation.specs.Messages.{CallSays}
 use Rattle.sip_conversation.specs.Replies.{AreCounted}
 use Rattle.sip_conversation.specs.Steps.Fair.{IsFair}
@@ -46,7 +46,7 @@ pub record IsBegun (config : Config) (to : Addr) (side : Side) (turns : List Tur
       ≡ before ++ given_at now (Start id call_id request to) ∷ after
   pub new : state_after transaction_machine key before ≡ None
   pub kept : list_any (λ timed. is_lost timed.input) after ≡ false
-  pub short : length (written request) ≤ 65535
+  pub short : length (written request) ≤ longest_datagram
 
 -- the address to which an output starts a request
 abbrev sent_to : Addr → CallOut → Addr

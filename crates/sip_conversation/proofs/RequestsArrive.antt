@@ -366,7 +366,8 @@ module _ (configs : Side → Config) (fair : IsFair configs) (turns : List Turn)
         (λ late. absurd (not_after at by (each_of (IsLater last) whole.rest at whole.late late)))
         (Contains-append_cases whole.front whole.rest at
         (subst (λ ts. Contains ts at) whole.are among)) in
-        let given = text_given request (rules_to last start_before) way.short
+        let given = text_given request (rules_to last start_before)
+        (omega (arith, way.short))
         (asks_to last start_before) config.local (configs (peer s))
         (rounds_of (peer s) whole.front) at.round
         (own_round (peer s) whole.front at early_enough one.to) one.comes in
@@ -382,7 +383,7 @@ module _ (configs : Side → Config) (fair : IsFair configs) (turns : List Turn)
         by_bool (list_any (ends_wait (now + 32000)) waiting)
         (λ ends. let one = some_one (ends_wait (now + 32000)) waiting ends in
         ended_by one.one.moment one.one.input one.among one.passes)
-        (λ none. one_comes (delivers [] front parts.rest parts.are s text (enough none) goes_on))
+        (λ none. one_comes (delivers [] front parts.rest parts.are s text way.short (enough none) goes_on))
 
 -- ---- the law
 

@@ -103,6 +103,7 @@ module _ (up : AnUp) (request : Message) (reply_to : Addr) (tag : List ℕ)
     pub response : Message
     pub sent : Contains outs (Command up.id (Answer up.key response))
     pub starts : response.start ≡ Response status reason
+    pub empty : response.body ≡ []
     pub own : is_own_status request status ≡ true
 
   abbrev pub IsFine : ServedTaken → Type 0
@@ -120,26 +121,27 @@ module _ (up : AnUp) (request : Message) (reply_to : Addr) (tag : List ℕ)
   or_fine f otherwise (Some x) each none = each x refl
 
   answers : (after : State) (status : ℕ) (reason : List ℕ) (response : Message)
-      (others : List CallOut) → response.start ≡ Response status reason
+      (others : List CallOut) → response.start ≡ Response status reason → response.body ≡ []
       → is_own_status request status ≡ true
       → IsFine (after, Command up.id (Answer up.key response) ∷ others)
-  answers after status reason response others starts own = inr record {
+  answers after status reason response others starts empty own = inr record {
     status = status;
     reason = reason;
     response = response;
     sent = among_first (Command up.id (Answer up.key response)) others;
     starts = starts;
+    empty = empty;
     own = own;
   }
 
   none_fine : (state : State) → IsFine (no_such_call state arrival)
   none_fine state =
-      answers state 481 (codes "Call/Transaction Does Not Exist") _ [] refl refl
+      answers state 481 (codes "Call/Transaction Does Not Exist") _ [] refl refl refl
 
   prack_fine : (state : State) (call_id : List ℕ) → is_prack request ≡ true → (rack : RAck)
       (invite : HeldRequest) → IsFine (prack_for state call_id arrival rack invite)
   prack_fine state call_id prack rack invite =
-      answers (prack_for state call_id arrival rack invite).0 200 (codes "OK") _ _ refl prack
+      answers (prack_for state call_id arrival rack invite).0 200 (codes "OK") _ _ refl refl prack
 
   rack_fine : (state : State) (call_id : List ℕ) (name : DialogId) (created_by : Id)
       → is_prack request ≡ true → (o : Option RAck)
@@ -178,7 +180,7 @@ module _ (up : AnUp) (request : Message) (reply_to : Addr) (tag : List ℕ)
       let dialogs = dialog_changed name (after_request request) state.dialogs in
       let noted : State = record state { dialogs = dialogs } in
       if_fine (not (is_above held request.cseq.number)) _ _
-      (λ e. answers state 500 (codes "Server Internal Error") _ [] refl refl)
+      (λ e. answers state 500 (codes "Server Internal Error") _ [] refl refl refl)
       (λ e. if_fine (is_prack request) _ _
       (λ prack. rack_fine noted up.call_id name held.created_by prack request.rack)
       (λ no_prack. user_fine noted name (λ bye. (
@@ -201,9 +203,9 @@ module _ (up : AnUp) (request : Message) (reply_to : Addr) (tag : List ℕ)
       (λ cancel. absurd (false≢true (sym no_cancel ∙ cancel)))
       (λ no_cancel. if_fine (not (has_to_tag request)
       && list_any (is_merged request) state.requests) _ _
-      (λ e. answers state 482 (codes "Loop Detected") _ [] refl refl)
+      (λ e. answers state 482 (codes "Loop Detected") _ [] refl refl refl)
       (λ e. if_fine (list_any is_unknown_option request.require) _ _
-      (λ f. answers state 420 (codes "Bad Extension") _ [] refl refl)
+      (λ f. answers state 420 (codes "Bad Extension") _ [] refl refl refl)
       (λ f. if_fine (has_to_tag request) _ _
       (λ tagged. or_fine (request_in_dialog state up.call_id name arrival)
       (no_such_call state arrival) (dialog_at name state.dialogs)
@@ -319,21 +321,21 @@ module _ (config : Config) (rounds : List Round)
       responds : (tag : List ℕ) (outs : List CallOut)
           → ((out : CallOut) → Contains outs out → Contains (said_of_call config rounds call_id) out)
           → Answers up request reply_to tag no_cancel outs
-          → IsAnsweredThere config rounds request up.id
+          → IsAnsweredThere config rounds request up.id up.key
       responds tag outs said answer = record {
         status = answer.status;
         reason = answer.reason;
         response = answer.response;
-        key = up.key;
         sent = (call_id, said (Command up.id (Answer up.key answer.response)) answer.sent);
         starts = answer.starts;
+        empty = answer.empty;
         own = answer.own;
       }
 
       -- the user is told of a request that comes up, or the agent answers it by itself
       pub told_or_answered : up.kind ≡ kind.Request request reply_to
           → ComesUp config rounds call_id up
-          → IsTold config rounds request up.id ⊎ IsAnsweredThere config rounds request up.id
+          → IsTold config rounds request up.id ⊎ IsAnsweredThere config rounds request up.id up.key
       told_or_answered is comes =
           let own = in_call comes.0 comes.1 (Up up) comes.2 in
           let state = call_from calls None own.0 in

@@ -37,6 +37,10 @@ use Rattle.sip_conversation.specs.Replies.{AreCounted}
 
 -- ---- the premises
 
+-- the longest datagram that UDP carries over IPv4, in bytes
+abbrev pub longest_datagram : ℕ
+longest_datagram = 65507
+
 -- the moments of these turns are of one clock, and it doesn't go back
 abbrev pub ShareAClock : List Turn → Type 0
 ShareAClock [] = Unit {0}
@@ -91,7 +95,8 @@ module _ (configs : Side → Config) where
   abbrev pub Delivers : ℕ → ℕ → List Turn → Type 0
   Delivers tries delay turns = (before during after : List Turn)
       → turns ≡ before ++ (during ++ after) → (side : Side) (bytes : List ℕ)
-      → tries ≤ copies_sent before during side bytes → GoesOn delay during after
+      → length bytes ≤ longest_datagram → tries ≤ copies_sent before during side bytes
+      → GoesOn delay during after
       → OneIsDelivered delay before during after side bytes
 
 -- ---- the law
@@ -106,7 +111,7 @@ is_lost (Some (Failed id)) = true
 is_lost (Some Abandon) = true
 
 -- At this moment a transaction of a side was started with this request to this address, with a text
--- of at most 65,535 bytes. In these turns the user doesn't give it up, and no send of it is
+-- that UDP carries. In these turns the user doesn't give it up, and no send of it is
 -- reported to have failed.
 pub record IsUnderWay (config : Config) (to : Addr) (side : Side) (turns : List Turn) (key : Key)
     (now : ℕ) (request : Message) : Type 0 where
@@ -116,7 +121,7 @@ pub record IsUnderWay (config : Config) (to : Addr) (side : Side) (turns : List 
       (given_at now (Start id call_id request to))
   pub kept : list_any (λ timed. is_lost timed.input) (inputs_of config (rounds_of side turns) key)
       ≡ false
-  pub short : length (written request) ≤ 65535
+  pub short : length (written request) ≤ longest_datagram
 
 -- the final responses that an agent gives by itself: 420 to an unknown option (RFC 3261, section
 -- 8.2.2.3), 481 without the dialog, or 500 in it (12.2.2), 482 (8.2.2.2), and a PRACK's (RFC 3262,
@@ -138,14 +143,14 @@ module _ (config : Config) (rounds : List Round) (request : Message) (id : Id) w
         × Contains (all_given (answers config rounds))
         (output.Notice (notice.Ended request.call_id local_tag remote_tag))
 
-  -- or the agent gives the final response itself
-  pub record IsAnsweredThere : Type 0 where
+  -- or the agent gives the final response itself, without a body, in the transaction with this key
+  pub record IsAnsweredThere (key : Key) : Type 0 where
     pub status : ℕ
     pub reason : List ℕ
     pub response : Message
-    pub key : Key
     pub sent : CallSays config rounds (Command id (order.Answer key response))
     pub starts : response.start ≡ Response status reason
+    pub empty : response.body ≡ []
     pub own : is_own_status request status ≡ true
 
 -- In turns up to this moment the request came up to the call of its Call-ID at the other side, as
@@ -163,7 +168,7 @@ pub record ArrivesBy (configs : Side → Config) (turns : List Turn) (side : Sid
   pub told : IsTold (configs (peer side)) (rounds_of (peer side) front)
       (come_from (configs side).local request) up.id
       ⊎ IsAnsweredThere (configs (peer side)) (rounds_of (peer side) front)
-      (come_from (configs side).local request) up.id
+      (come_from (configs side).local request) up.id up.key
 
 -- a side runs a round after this moment
 abbrev pub RunsAfter : Side → ℕ → List Turn → Type 0

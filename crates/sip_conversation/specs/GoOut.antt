@@ -1,5 +1,5 @@
 -- A request that a user asks for is refused, or goes out at once; if it is a BYE, he is told of the
--- end of its dialog (RFC 3261, section 15.1.1).
+-- end of a dialog of its call (RFC 3261, section 15.1.1).
 use Rattle.std.specs.Prelude.{◌≡◌, ◌⊎◌, ◌+◌, ◌<◌, ◌≤◌, ℕ, suc, false, List, Contains, Some, codes, length}
 use Rattle.std.specs.List.{list_any}
 use Rattle.sip_message.specs.declared.addr.Addr.{Addr}
@@ -24,12 +24,12 @@ use Rattle.sip_round.specs.Given.{all_given}
 use Rattle.sip_round.specs.Laws.{call_inputs_of, inputs_of}
 use Rattle.sip_conversation.specs.Conversation.{Side, Turn, peer, rounds_of}
 use Rattle.sip_conversation.specs.Copies.{latest_repeat, pace_of}
-use Rattle.sip_conversation.specs.Delivery.{ArrivesBy, Delivers, RunInTime, RunsAfter, ShareAClock, is_lost}
+use Rattle.sip_conversation.specs.Delivery.{ArrivesBy, Delivers, RunInTime, RunsAfter, ShareAClock, is_lost, longest_datagram}
 use Rattle.sip_conversation.specs.Replies.{AreCounted}
 use Rattle.sip_conversation.specs.Requests.{request_asked_by}
 
 module _ (config : Config) (rounds : List Round) (call_id : List ℕ) (event : Id) where
-  -- the user is told that his command, this event, was refused
+  -- the user is told that a command of the call at the place of this event was refused
   pub record IsRefused : Type 0 where
     pub why : Refusal
     pub told : Contains (all_given (answers config rounds))
@@ -68,8 +68,8 @@ RequestsGoOut config = (rounds : List Round) (round : Round) → Contains rounds
 -- ---- over a network that delivers
 
 -- A user's command for a request, other than CANCEL, is refused, or the request goes out. If it
--- goes to the other side, isn't given up or reported unsent, and has at most 65,535 bytes, it
--- arrives as `RequestsArrive` says.
+-- goes to the other side, isn't given up or reported unsent, and UDP carries it, it arrives as
+-- `RequestsArrive` says.
 abbrev pub AskedArrive : (Side → Config) → List Turn → Type 0
 AskedArrive configs turns = (lag repeats delay : ℕ) → ShareAClock turns
     → RunInTime configs lag turns → Delivers configs (suc repeats) delay turns
@@ -82,8 +82,8 @@ AskedArrive configs turns = (lag repeats delay : ℕ) → ShareAClock turns
     last < 64*T1 → RunsAfter side (round.moment + last) turns
     → let of = call_of_command command in
     let rounds = rounds_of side turns in
-    (event : Id) × (IsRefused (configs side) rounds of event
-    ⊎ ((goes : GoesOut (configs side) rounds of event round.moment method body)
-    × (goes.to ≡ (configs (peer side)).local → length (written goes.request) ≤ 65535
+    (taken : IsTaken (configs side) rounds round command method body)
+    × ((goes : GoesOut (configs side) rounds of taken.event round.moment method body)
+    → goes.to ≡ (configs (peer side)).local → length (written goes.request) ≤ longest_datagram
     → list_any (λ timed. is_lost timed.input) (inputs_of (configs side) rounds goes.key) ≡ false
-    → ArrivesBy configs turns side goes.request (round.moment + last))))
+    → ArrivesBy configs turns side goes.request (round.moment + last))

@@ -27,7 +27,7 @@ pub fn a_request_is_repeated()
 /// after a timer of a transaction is due. Of any so many copies of a datagram that a side sends to
 /// the other one, one after another, one at least comes within `delay` ms. Then each request that a
 /// side sends to the other one arrives, if it isn't given up, none of its sends is reported to have
-/// failed, and its text has at most 65,535 bytes. Its tries are the request and its repeats (see
+/// failed, and its text has at most 65,507 bytes. Its tries are the request and its repeats (see
 /// `a_request_is_repeated`). It arrives by the latest moment of its last try and that delay, if
 /// these are before timer B or F fires. So this is said of 11 tries of a request other than INVITE
 /// if 10 lags and the delay are below 500 ms, of 10 if 9 lags and the delay are below 4,500 ms, of
@@ -63,7 +63,7 @@ pub fn requests_go_out(config: Config)
 /// Both together, in a conversation as in `requests_arrive`. A user's command for a request, other
 /// than CANCEL, is refused, and he is told so; or its request goes out at once. If this is sent to
 /// the other side, isn't given up, none of its sends is reported to have failed, and its text has
-/// at most 65,535 bytes, it arrives there, by the latest moment of its last try and the delay: the
+/// at most 65,507 bytes, it arrives there, by the latest moment of its last try and the delay: the
 /// other user is told of it, or the other agent responds by itself. After a BYE both users are told
 /// of the end of a dialog of the call, unless the other agent responds by itself.
 pub fn what_is_asked_for_arrives(one: Config, other: Config)
