@@ -45,8 +45,9 @@ pub fn the_user_ends_all()
 {}
 
 /// Of a request other than INVITE that the agent sends, the application is told of at most one
-/// outcome under the request's id: a final response, a timeout, or that it couldn't be sent. It is told of one by the first round 64*T1 later, unless it gives the request up (RFC
-/// 3261, sections 8.1.3.1 and 17.1.2.2).
+/// outcome under the request's id: a final response, a timeout, or that it couldn't be sent. It is
+/// told of one by the first round 64*T1 later, unless it gives the request up (RFC 3261, sections
+/// 8.1.3.1 and 17.1.2.2).
 pub fn each_request_has_one_outcome()
     ensures most { AtMostOneIsTold }
     ensures one { EachRequestHasOneOutcome }
