@@ -12,6 +12,7 @@ use Rattle.sip_transactions.specs.declared.input.Input.TheVariants.{Start}
 use Rattle.sip_user.specs.Command.{call_of_command}
 use Rattle.sip_user.specs.declared.item.CallOut.TheVariants as call_out
 use Rattle.sip_round.specs.declared.config.Config.{Config}
+use Rattle.sip_round.specs.declared.output.Output.{Output}
 use Rattle.sip_round.specs.Laws.{inputs_of}
 use Rattle.sip_conversation.specs.Conversation.{Carried, Side, Turn, peer, rounds_of}
 use Rattle.sip_conversation.specs.Copies.{latest_repeat, pace_of}
@@ -31,16 +32,16 @@ asked_arrive configs fair turns carried keep lag repeats delay clock runs delive
     let config = configs side in
     let rounds = rounds_of side turns in
     let taken = requests_go_out config (fair.calls side) rounds round among command has method body
-    asks in (taken, λ goes to short kept. arrives taken.event goes to short kept)
+    asks in (taken, λ goes to short kept. arrives taken.event taken.given goes to short kept)
   where
-    arrives : (event : _) (goes : GoesOut (configs side) (rounds_of side turns)
-        (call_of_command command) event round.moment method body)
+    arrives : (event : _) (given : List Output) (goes : GoesOut (configs side) (rounds_of side turns)
+        (call_of_command command) event given round.moment method body)
         → goes.to ≡ (configs (peer side)).local → length (written goes.request) ≤ longest_datagram
         → list_any (λ timed. is_lost timed.input)
         (inputs_of (configs side) (rounds_of side turns) goes.key) ≡ false
         → ArrivesBy configs turns side goes.request
         (round.moment + (latest_repeat (pace_of method) lag repeats + delay))
-    arrives event goes to short kept =
+    arrives event given goes to short kept =
         let config = configs side in
         let rounds = rounds_of side turns in
         let of = call_of_command command in

@@ -1,7 +1,7 @@
 -- A request that a user asks for is refused, or goes out; if it is a BYE, he is told of the end of
 -- its dialog.
 use Rattle.std.proofs.Common.{◌≡◌, ◌⊎◌, inl, inr, ⊎_elim, ℕ, suc, Bool, true, false, cond, List, [], ◌∷◌, ◌++◌, refl, sym, ap, ◌∙◌, subst, codes}
-use Rattle.std.specs.Prelude.{◌||◌, Contains, Option, None, Some, filter}
+use Rattle.std.specs.Prelude.{◌||◌, Contains, Option, None, Some, filter, zip}
 use Rattle.std.specs.BTreeMap.{is_at}
 use Rattle.std.specs.List.{flat_map}
 use Rattle.std.specs.Map.{lookup, set_value}
@@ -39,6 +39,7 @@ use Rattle.sip_user.specs.declared.item.CallOut.{CallOut}
 use Rattle.sip_user.specs.declared.item.CallOut.TheVariants.{Command, Notice}
 use Rattle.sip_user.specs.declared.item.Item.{Item}
 use Rattle.sip_user.specs.declared.item.Item.TheVariants.{User}
+use Rattle.sip_user.specs.declared.notice.Notice.{Notice as ANotice}
 use Rattle.sip_user.specs.declared.notice.Notice.TheVariants.{Ended, Refused}
 use Rattle.sip_user.specs.declared.refusal.Refusal.{Refusal}
 use Rattle.sip_user.specs.declared.refusal.Refusal.TheVariants.{BadMethod, NoSuchDialog}
@@ -65,14 +66,15 @@ use Rattle.sip_round.specs.declared.config.Config.{Config}
 use Rattle.sip_round.specs.declared.round.Event.{Event as AnEvent}
 use Rattle.sip_round.specs.declared.round.Event.TheVariants as event
 use Rattle.sip_round.specs.declared.round.Round.{Round}
+use Rattle.sip_round.specs.declared.output.Output.{Output}
 use Rattle.sip_round.specs.declared.output.Output.TheVariants as output
-use Rattle.sip_round.specs.Given.{all_given}
-use Rattle.sip_round.specs.Answers.{Past, answers, arrivals, calls_of, first, given_second, items_of_round, no_past, past_after, past_of, said_by_calls, said_by_transactions, second, third}
+use Rattle.sip_round.specs.Answers.{Past, answer, answers, answers_from, arrivals, calls_of, first, given_second, items_of_round, no_past, past_after, past_of, said_by_calls, said_by_transactions, second, third}
 use Rattle.sip_round.specs.Arrivals.{Arrival, arrival_of, arrivals_from}
 use Rattle.sip_round.specs.Arrivals as arrival
 use Rattle.sip_round.specs.Laws.{call_inputs_of, inputs_of, said_of_call}
-use Rattle.sip_round.specs.Outputs.{command_of, joined, outs_of, raised_of, said_at, user_items}
+use Rattle.sip_round.specs.Outputs.{all_said, call_outputs, sent_of, command_of, joined, outs_of, raised_of, said_at, user_items}
 use Rattle.sip_round.specs.Phases.{call_items, command_items}
+use Rattle.sip_round.proofs.AnswerParts.{answer_parts, sent_first}
 use Rattle.sip_round.proofs.GivenNotices.{calls_are, calls_from}
 use Rattle.sip_conversation.specs.GoOut.{GoesOut, IsRefused, RequestsGoOut}
 use Rattle.sip_conversation.specs.Requests.{request_asked_by}
@@ -462,6 +464,23 @@ module _ (config : Config) (command : UserCommand) where
 
   -- ---- in rounds
 
+  -- what calls say in a round to tell the user is among what it gives
+  answer_gives : (number : ℕ) (past : Past) (round : Round) (told : ANotice)
+      → Contains (given_second config number past round) (Notice told)
+      → Contains (answer config number past round) (output.Notice told)
+  answer_gives number past round told says =
+      let one = first config number past round in
+      let sent = sent_first (said_by_transactions past.transactions one)
+      (arrivals config number past round) in
+      let reported = flat_map call_outputs (given_second config number past round) in
+      let last = flat_map sent_of (all_said (said_by_transactions (past.transactions ++ one ∷ [])
+      (third config number past round))) in
+      subst (λ outs. Contains outs (output.Notice told)) (sym (answer_parts config number past round))
+      (Contains-append_left (sent ++ reported) last (output.Notice told)
+      (Contains-append_right sent reported (output.Notice told)
+      (in_all_of call_outputs (given_second config number past round) (Notice told)
+      (output.Notice told) says (among_first (output.Notice told) []))))
+
   record TakenFrom (number : ℕ) (past : Past) (rounds : List Round) (round : Round) : Type 0 where
     event : Id
     gave : Contains (history call_cmp tick_at (calls_from config number past rounds) call_id)
@@ -474,6 +493,10 @@ module _ (config : Config) (command : UserCommand) where
         → Contains (outs_at state event round.moment) (Command id asked)
         → Contains (history key_cmp tick_at (transactions_from config number past rounds)
         (command_key asked)) (given_at round.moment (asked_by id asked))
+    given : List Output
+    answered : Contains (zip rounds (answers_from config number past rounds)) (round, given)
+    tells : (told : ANotice) → Contains (outs_at state event round.moment) (Notice told)
+        → Contains given (output.Notice told)
 
   taken_here : (number : ℕ) (past : Past) (round : Round) (rounds : List Round)
       → Contains round.events (event.Command command)
@@ -508,6 +531,9 @@ module _ (config : Config) (command : UserCommand) where
             (Contains-append_left two rest input
             (order_given config id asked number past round
             (said.asked (Command id asked) gives)));
+        given = answer config number past round;
+        answered = among_first _ _;
+        tells = λ told gives. answer_gives number past round told (said.asked (Notice told) gives);
       }
 
   taken_from : (number : ℕ) (past : Past) (rounds : List Round) (round : Round)
@@ -545,6 +571,9 @@ module _ (config : Config) (command : UserCommand) where
             let input = given_at round.moment (asked_by id asked) in
             Contains-append_right one_in (two_in ++ more) input
             (Contains-append_right two_in more input (rest.asked id asked gives));
+        given = rest.given;
+        answered = among_later _ _ (round, rest.given) rest.answered;
+        tells = rest.tells;
       })
       (first_or_later one rounds round among)
 
@@ -560,10 +589,14 @@ module _ (config : Config) (command : UserCommand) where
         → Contains (outs_at state event round.moment) (Command id asked)
         → Contains (inputs_of config rounds (command_key asked))
         (given_at round.moment (asked_by id asked))
+    given : List Output
+    answered : Contains (zip rounds (answers config rounds)) (round, given)
+    tells : (told : ANotice) → Contains (outs_at state event round.moment) (Notice told)
+        → Contains given (output.Notice told)
 
   taken : (rounds : List Round) (round : Round) → Contains rounds round
       → Contains round.events (event.Command command) → IsTakenSo rounds round
-  unfolding past_of
+  unfolding past_of answers
   taken rounds round among has =
       let found = taken_from config.first no_past rounds round among has in
       let calls_so = sym (calls_are config config.first no_past rounds) in
@@ -580,6 +613,9 @@ module _ (config : Config) (command : UserCommand) where
             (given_at round.moment (asked_by id asked)))
             (sym (transactions_are config config.first no_past rounds))
             (found.asked id asked gives);
+        given = found.given;
+        answered = found.answered;
+        tells = found.tells;
       }
 
 -- ---- the law
@@ -595,7 +631,7 @@ module _ (config : Config)
     outs = outs_at config command so.state so.event round.moment
 
     goes_out : Goes of_call method body so.event outs
-        → GoesOut config rounds of_call so.event round.moment method body
+        → GoesOut config rounds of_call so.event so.given round.moment method body
     goes_out goes =
         let asked = order.Start goes.key goes.of goes.request goes.to in
         let says : CallSays config rounds (Command so.event asked) =
@@ -619,18 +655,19 @@ module _ (config : Config)
               (so.said (ended_notice held.0) held.1) in (
                 tag_text dialog.local.tag,
                 tag_text dialog.remote.tag,
-                subst (λ (of : List ℕ). Contains (all_given (answers config rounds))
+                subst (λ (of : List ℕ). Contains so.given
                     (output.Notice (Ended of (tag_text dialog.local.tag)
-                    (tag_text dialog.remote.tag)))) (sym ended.own) ended.given,
+                    (tag_text dialog.remote.tag)))) (sym ended.own)
+                    (so.tells (Ended dialog.call_id (tag_text dialog.local.tag)
+                    (tag_text dialog.remote.tag)) held.1),
               );
         }
 
     is_refused : Refuses of_call method body so.event outs
-        → IsRefused config rounds of_call so.event
+        → IsRefused of_call so.event so.given
     is_refused refuses = record {
       why = refuses.why;
-      told = (notice_given config rounds alone of_call
-          (Refused of_call so.event.place refuses.why) (so.said _ refuses.told)).given;
+      told = so.tells (Refused of_call so.event.place refuses.why) refuses.told;
     }
 
   pub requests_go_out : RequestsGoOut config
@@ -639,6 +676,8 @@ module _ (config : Config)
       record {
         event = so.event;
         gave = so.gave;
+        given = so.given;
+        answer = so.answered;
         done = ⊎_elim
             (λ refuses. inl (is_refused rounds round command method body so refuses))
             (λ goes. inr (goes_out rounds round command method body so goes))

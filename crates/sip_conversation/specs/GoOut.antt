@@ -1,6 +1,6 @@
 -- A request that a user asks for is refused, or goes out at once; if it is a BYE, he is told of the
 -- end of a dialog of its call (RFC 3261, section 15.1.1).
-use Rattle.std.specs.Prelude.{◌≡◌, ◌⊎◌, ◌+◌, ◌<◌, ◌≤◌, ℕ, suc, false, List, Contains, Some, codes, length}
+use Rattle.std.specs.Prelude.{◌≡◌, ◌⊎◌, ◌+◌, ◌<◌, ◌≤◌, ℕ, suc, false, List, Contains, Some, codes, length, zip}
 use Rattle.std.specs.List.{list_any}
 use Rattle.sip_message.specs.declared.addr.Addr.{Addr}
 use Rattle.sip_message.specs.declared.id.Id.{Id}
@@ -16,11 +16,11 @@ use Rattle.sip_user.specs.declared.item.Item.TheVariants.{User}
 use Rattle.sip_user.specs.declared.notice.Notice.TheVariants as notice
 use Rattle.sip_user.specs.declared.refusal.Refusal.{Refusal}
 use Rattle.sip_round.specs.declared.config.Config.{Config}
+use Rattle.sip_round.specs.declared.output.Output.{Output}
 use Rattle.sip_round.specs.declared.output.Output.TheVariants.{Notice}
 use Rattle.sip_round.specs.declared.round.Event.TheVariants.{Command}
 use Rattle.sip_round.specs.declared.round.Round.{Round}
 use Rattle.sip_round.specs.Answers.{answers}
-use Rattle.sip_round.specs.Given.{all_given}
 use Rattle.sip_round.specs.Laws.{call_inputs_of, inputs_of}
 use Rattle.sip_conversation.specs.Conversation.{Side, Turn, peer, rounds_of}
 use Rattle.sip_conversation.specs.Copies.{latest_repeat, pace_of}
@@ -28,15 +28,15 @@ use Rattle.sip_conversation.specs.Delivery.{ArrivesBy, Delivers, RunInTime, Runs
 use Rattle.sip_conversation.specs.Replies.{AreCounted}
 use Rattle.sip_conversation.specs.Requests.{request_asked_by}
 
-module _ (config : Config) (rounds : List Round) (call_id : List ℕ) (event : Id) where
-  -- the user is told that a command of the call at the place of this event was refused
-  pub record IsRefused : Type 0 where
-    pub why : Refusal
-    pub told : Contains (all_given (answers config rounds))
-        (Notice (notice.Refused call_id event.place why))
+-- among what is given in its round, the user is told that his command, this event, was refused
+pub record IsRefused (call_id : List ℕ) (event : Id) (given : List Output) : Type 0 where
+  pub why : Refusal
+  pub told : Contains given (Notice (notice.Refused call_id event.place why))
 
+module _ (config : Config) (rounds : List Round) (call_id : List ℕ) (event : Id)
+    (given : List Output) where
   -- at this moment a transaction is started with a request of this method and body, under the id of
-  -- the event; if it is a BYE, the user is told of the end of a dialog of the call
+  -- the event; if it is a BYE, the user is told of the end of a dialog of the call, in its round
   pub record GoesOut (moment : ℕ) (method body : List ℕ) : Type 0 where
     pub request : Message
     pub method_is : request.cseq.method ≡ method
@@ -46,8 +46,7 @@ module _ (config : Config) (rounds : List Round) (call_id : List ℕ) (event : I
     pub started : Contains (inputs_of config rounds key)
         (given_at moment (Start event call_id request to))
     pub ends : method ≡ codes "BYE" → (local_tag : List ℕ) × (remote_tag : List ℕ)
-        × Contains (all_given (answers config rounds))
-        (Notice (notice.Ended call_id local_tag remote_tag))
+        × Contains given (Notice (notice.Ended call_id local_tag remote_tag))
 
 -- a command of this round for a request is an input of its call, and is refused, or goes out
 pub record IsTaken (config : Config) (rounds : List Round) (round : Round) (command : UserCommand)
@@ -55,8 +54,10 @@ pub record IsTaken (config : Config) (rounds : List Round) (round : Round) (comm
   pub event : Id
   pub gave : Contains (call_inputs_of config rounds (call_of_command command))
       (given_at round.moment (event, User command))
-  pub done : IsRefused config rounds (call_of_command command) event
-      ⊎ GoesOut config rounds (call_of_command command) event round.moment method body
+  pub given : List Output
+  pub answer : Contains (zip rounds (answers config rounds)) (round, given)
+  pub done : IsRefused (call_of_command command) event given
+      ⊎ GoesOut config rounds (call_of_command command) event given round.moment method body
 
 -- so is each such command, in any rounds
 abbrev pub RequestsGoOut : Config → Type 0
@@ -83,7 +84,7 @@ AskedArrive configs turns = (lag repeats delay : ℕ) → ShareAClock turns
     → let of = call_of_command command in
     let rounds = rounds_of side turns in
     (taken : IsTaken (configs side) rounds round command method body)
-    × ((goes : GoesOut (configs side) rounds of taken.event round.moment method body)
+    × ((goes : GoesOut (configs side) rounds of taken.event taken.given round.moment method body)
     → goes.to ≡ (configs (peer side)).local → length (written goes.request) ≤ longest_datagram
     → list_any (λ timed. is_lost timed.input) (inputs_of (configs side) rounds goes.key) ≡ false
     → ArrivesBy configs turns side goes.request (round.moment + last))
