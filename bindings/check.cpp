@@ -3,6 +3,8 @@
 
 #include <chrono>
 #include <iostream>
+#include <set>
+#include <unordered_set>
 
 static int faults = 0;
 
@@ -20,6 +22,17 @@ template <class Call> static void expect_status(std::uint32_t status, const char
     } catch (const sip::Error &error) {
         expect(error.status == status, what);
     }
+}
+
+// Ids are keys of maps of both kinds. The order is that of their events.
+static void ids() {
+    const sip::Id first = {true, 2, 1}, second = {true, 1, 2}, third = {true, 2, 2}, none = {};
+    const std::set<sip::Id> ordered = {third, first, none, second, first};
+    const std::unordered_set<sip::Id> hashed(ordered.begin(), ordered.end());
+    expect(std::vector<sip::Id>(ordered.begin(), ordered.end())
+               == std::vector<sip::Id>{none, first, second, third}, "ids in order");
+    expect(hashed.size() == 4 && hashed.count({true, 1, 2}) == 1, "ids by their hash");
+    expect(first != second && !(first != sip::Id{true, 2, 1}), "ids differ");
 }
 
 // Commands and outputs by their fields.
@@ -58,6 +71,8 @@ static void typed(sip::Agent &agent) {
     } catch (const sip::Error &error) {
         expect(error.status == SIP_UA_BAD_FIELD && error.bad_field == SIP_UA_FIELD_LOCAL_TAG,
                "which field is bad");
+        expect(error.what() == std::string("sip_ua: a field of the command is bad: local_tag"),
+               "its name");
     }
     sip_ua none = SIP_UA_NONE;
     sip_ua_asked asked;
@@ -73,7 +88,8 @@ static void addresses() {
     expect(party && party->display == "Bob \"B\"" && party->uri == "sip:b@192.0.2.9"
                && party->value == "t1", "a party with its tag");
     const auto other = sip::party_in("Mr. B, the second <sip:b@192.0.2.9>", "tag");
-    expect(other && other->display == "Mr. B, the second" && !other->value, "a party without a tag");
+    expect(other && other->display == "Mr. B, the second" && !other->value,
+           "a party without a tag");
     const char *contacts = "<sip:a,b>, \"x,y\" <sip:c;p>;q=\"0.5\";empty";
     const auto second = sip::address_in(contacts, "q", 1);
     expect(second && second->display == "x,y" && second->uri == "sip:c;p" && second->value == "0.5",
@@ -133,6 +149,7 @@ static void many_headers(sip::Agent &agent) {
 
 int main() {
     addresses();
+    ids();
     const sip::Configuration configuration = {{{192, 0, 2, 1}, 5060}, {}, 0};
     const sip::Address from = {{192, 0, 2, 9}, 5060};
     const std::string options = "OPTIONS sip:a@192.0.2.1 SIP/2.0\r\n"

@@ -7,27 +7,54 @@
 
 #include <array>
 #include <cstdint>
+#include <functional>
 #include <optional>
 #include <stdexcept>
 #include <string>
 #include <string_view>
+#include <tuple>
 #include <utility>
 #include <vector>
+
+// Ids are compared, ordered by their events, and found in maps of both kinds.
+inline bool operator==(const sip_ua_id &one, const sip_ua_id &other) {
+    return sip_ua_is_id(one, other);
+}
+
+inline bool operator!=(const sip_ua_id &one, const sip_ua_id &other) { return !(one == other); }
+
+inline bool operator<(const sip_ua_id &one, const sip_ua_id &other) {
+    return std::tie(one.is_given, one.round, one.place)
+        < std::tie(other.is_given, other.round, other.place);
+}
+
+template <> struct std::hash<sip_ua_id> {
+    std::size_t operator()(const sip_ua_id &id) const noexcept {
+        // A round has at most 65,536 events.
+        return std::hash<std::uint64_t>()(id.round << 17 ^ id.place);
+    }
+};
 
 namespace sip {
 
 /// A fault of a call: `status` is one of SIP_UA_.., and after SIP_UA_BAD_FIELD `bad_field` is one
-/// of SIP_UA_FIELD_..
+/// of SIP_UA_FIELD_.. `what()` says both in English.
 struct Error : std::runtime_error {
     explicit Error(std::uint32_t status, std::uint32_t bad_field = 0)
-        : std::runtime_error(std::string("sip_ua: ") + sip_ua_status_text(status)), status(status),
-          bad_field(bad_field) {}
+        : std::runtime_error(text_of(status, bad_field)), status(status), bad_field(bad_field) {}
     std::uint32_t status;
     std::uint32_t bad_field;
+
+private:
+    static std::string text_of(std::uint32_t status, std::uint32_t bad_field) {
+        const std::string text = std::string("sip_ua: ") + sip_ua_status_text(status);
+        return bad_field == 0 ? text : text + ": " + sip_ua_field_text(bad_field);
+    }
 };
 
 using Address = sip_ua_address;
 using Configuration = sip_ua_configuration;
+using Id = sip_ua_id;
 
 /// An output of a round: a datagram with the address to send it to, or a line without one. `place`
 /// is that of the event that caused it, from 1. It is 0 if a timer caused it, or if it is a new
@@ -81,7 +108,7 @@ struct Request {
 
 struct Respond {
     std::string_view call_id;
-    sip_ua_id id;
+    Id id;
     std::uint16_t status;
     std::string_view reason = {};
     bool is_reliable = false;
@@ -192,6 +219,9 @@ public:
 
     ~Agent() { sip_ua_free(&agent); }
 
+    /// The agent of sip_ua.h, for functions that this class does not have. It stays this object's.
+    sip_ua *get() { return &agent; }
+
     /// Frees the agent before the destructor does. A second close, any later call, and any call on
     /// an object that was moved from is SIP_UA_NO_AGENT.
     void close() { check(sip_ua_free(&agent)); }
@@ -216,7 +246,7 @@ public:
     // Each command returns the id that the notices about it have.
     // generated from bindings/commands.tsv: begin methods
     /// Starts a call: sends an initial INVITE to an address.
-    sip_ua_id invite(const Invite &given) {
+    Id invite(const Invite &given) {
         const auto headers = headers_of(given.headers);
         return asked(sip_ua_invite, sip_ua_invite_fields{bytes(given.call_id), given.address,
             bytes(given.request_uri), bytes(given.from), bytes(given.to), given.supports_100rel,
@@ -224,7 +254,7 @@ public:
     }
 
     /// Sends a request outside of any dialog to an address.
-    sip_ua_id plain(const Plain &given) {
+    Id plain(const Plain &given) {
         const auto headers = headers_of(given.headers);
         return asked(sip_ua_plain, sip_ua_plain_fields{bytes(given.call_id), given.address,
             bytes(given.method), bytes(given.request_uri), bytes(given.from), bytes(given.to),
@@ -232,7 +262,7 @@ public:
     }
 
     /// Sends a request in a dialog, such as BYE or a re-INVITE.
-    sip_ua_id request(const Request &given) {
+    Id request(const Request &given) {
         const auto headers = headers_of(given.headers);
         return asked(sip_ua_request, sip_ua_request_fields{bytes(given.call_id),
             bytes(given.local_tag), bytes(given.remote_tag), bytes(given.method), bytes(given.body),
@@ -241,7 +271,7 @@ public:
 
     /// Answers the request with this id, that of its notice; if an INVITE requires 100rel, each
     /// response of 101 to 199 is reliable.
-    sip_ua_id respond(const Respond &given) {
+    Id respond(const Respond &given) {
         const auto headers = headers_of(given.headers);
         return asked(sip_ua_respond, sip_ua_respond_fields{bytes(given.call_id), given.id,
             given.status, given.is_reliable, bytes(given.reason), bytes(given.body), headers.data(),
@@ -250,7 +280,7 @@ public:
 
     /// Sends the ACK of the dialog's oldest 2xx that needs one; most go out by themselves
     /// (docs/EMBEDDING.md).
-    sip_ua_id ack(const Body &given) {
+    Id ack(const Body &given) {
         const auto headers = headers_of(given.headers);
         return asked(sip_ua_ack, sip_ua_body_fields{bytes(given.call_id), bytes(given.local_tag),
             bytes(given.remote_tag), bytes(given.body), headers.data(), headers.size()});
@@ -258,26 +288,25 @@ public:
 
     /// Sends the PRACK of the dialog's oldest reliable provisional response that needs one; most go
     /// out by themselves (docs/EMBEDDING.md).
-    sip_ua_id prack(const Body &given) {
+    Id prack(const Body &given) {
         const auto headers = headers_of(given.headers);
         return asked(sip_ua_prack, sip_ua_body_fields{bytes(given.call_id), bytes(given.local_tag),
             bytes(given.remote_tag), bytes(given.body), headers.data(), headers.size()});
     }
 
     /// Cancels the INVITE with this id, that of its command.
-    sip_ua_id cancel(std::string_view call_id, sip_ua_id id) {
+    Id cancel(std::string_view call_id, Id id) {
         return asked(sip_ua_cancel, sip_ua_cancel_fields{bytes(call_id), id});
     }
 
     /// Gives up the request with this id, that of its command: it is no longer held, its early
     /// dialogs end, and nothing more is sent or told of it.
-    sip_ua_id abandon(std::string_view call_id, sip_ua_id id) {
+    Id abandon(std::string_view call_id, Id id) {
         return asked(sip_ua_abandon_request, sip_ua_abandon_request_fields{bytes(call_id), id});
     }
 
     /// Gives up the dialog with these tags: it ends, and nothing is sent.
-    sip_ua_id abandon(std::string_view call_id, std::string_view local_tag,
-                      std::string_view remote_tag) {
+    Id abandon(std::string_view call_id, std::string_view local_tag, std::string_view remote_tag) {
         return asked(sip_ua_abandon_dialog, sip_ua_abandon_dialog_fields{bytes(call_id),
             bytes(local_tag), bytes(remote_tag)});
     }
@@ -311,8 +340,8 @@ public:
     }
 
     /// The id of the event that was added last, if the next round has one.
-    std::optional<sip_ua_id> last_id() {
-        sip_ua_id id{};
+    std::optional<Id> last_id() {
+        Id id{};
         check(sip_ua_last_id(&agent, &id));
         return id.is_given ? std::optional(id) : std::nullopt;
     }
@@ -338,8 +367,9 @@ public:
     }
 
     /// The local tag of the dialogs that an INVITE with this id opens, or the From tag of a request
-    /// with this id outside of dialogs. Dialogs are held by it, whatever a response has in its place.
-    std::string opening_tag(sip_ua_id id) {
+    /// with this id outside of dialogs. Dialogs are held by it, whatever a response has in its
+    /// place.
+    std::string opening_tag(Id id) {
         std::size_t len = 0;
         return text_of(
             [&](std::uint8_t *room, std::size_t size) {
@@ -487,7 +517,7 @@ private:
         return headers;
     }
 
-    template <class Call, class Fields> sip_ua_id asked(Call call, const Fields &fields) {
+    template <class Call, class Fields> Id asked(Call call, const Fields &fields) {
         sip_ua_asked told;
         const std::uint32_t status = call(&agent, &fields, &told);
         if (status != SIP_UA_OK)

@@ -80,7 +80,7 @@ static sip::Address address(const std::string &field) {
     return {{byte(a), byte(b), byte(c), byte(d)}, static_cast<std::uint16_t>(port)};
 }
 
-static sip_ua_id id(const std::string &field) {
+static sip::Id id(const std::string &field) {
     const std::size_t dot = field.find('.');
     return {true, static_cast<std::uint32_t>(std::stoul(field.substr(dot + 1))),
             std::stoull(field.substr(0, dot))};
@@ -159,7 +159,7 @@ static void ask(sip::Agent &agent, const std::string &line, const std::vector<Gi
         throw std::runtime_error("no command: " + line);
 }
 
-static std::string spelled_id(const sip_ua_id &id) {
+static std::string spelled_id(const sip::Id &id) {
     return std::to_string(id.round) + "." + std::to_string(id.place);
 }
 

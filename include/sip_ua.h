@@ -475,6 +475,26 @@ static inline const char *sip_ua_status_text(uint32_t status)
     }
 }
 
+/* The name of a bad field, by its number. Never NULL. */
+static inline const char *sip_ua_field_text(uint32_t field)
+{
+    switch (field) {
+    /* generated from bindings/commands.tsv: begin field-texts */
+    case 1: return "call_id";
+    case 2: return "method";
+    case 3: return "request_uri";
+    case 4: return "from";
+    case 5: return "to";
+    case 6: return "local_tag";
+    case 7: return "remote_tag";
+    case 8: return "status";
+    case 9: return "reason";
+    case 10: return "headers";
+    /* generated from bindings/commands.tsv: end */
+    default: return "unknown field";
+    }
+}
+
 /* Why a command was refused, by the number in the notice, in English. Never NULL. */
 static inline const char *sip_ua_refusal_text(uint32_t number)
 {
