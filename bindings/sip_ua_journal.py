@@ -44,6 +44,8 @@ __all__ += ["JournalInUse", "Resumed", "agent_of", "head_of", "held_by", "resume
 
 _HEAD = re.compile(rb"sip-session 1\nlocal (\S+)\nseed ([0-9a-f]{64})\nfirst (\d+)\n")
 _ROUND = re.compile(rb"^round (\d+)\n", re.MULTILINE)
+# The end of a text between two lines, or within the line of a round.
+_END = re.compile(rb"(?:r|ro|rou|roun|round|round \d*)?\Z")
 _ESCAPE = re.compile(rb"\\(?:x(..)|(.))")
 _ESCAPES = {b"s": b" ", b"r": b"\r", b"n": b"\n", b"t": b"\t", b"\\": b"\\"}
 
@@ -166,14 +168,12 @@ def agent_of(library: str, local: Address, head: bytes) -> Agent:
 
 
 def _last_round(agent: Agent, journal: Journal, text: bytes, begin: int) -> Resumed:
-    """Runs all rounds but the last without outputs, and the last one for its outputs. A round that
-    ends within an event had no effect, and is cut off: so the notices of the one before it are told
-    again, and what they asked for is asked for again."""
-    begins = [found.start() for found in _ROUND.finditer(text, begin)]
-    if begins and not _is_whole(text[begins[-1] :]):
-        text = text[: begins.pop()]
+    """Runs all rounds but the last without outputs, and the last one for its outputs. One that was
+    torn is cut off: so the notices of the one before it are told again, and what they asked for is
+    asked for again."""
+    *begins, end = _bounds(text, begin)
     if not begins:
-        if text[begin:].strip():
+        if text[begin:end].strip():
             raise JournalError("not a journal")
         journal.cut(begin)
         return Resumed(agent, None, [])
@@ -184,7 +184,7 @@ def _last_round(agent: Agent, journal: Journal, text: bytes, begin: int) -> Resu
         raise JournalError(f"bad round: {error}") from None
     if taken < len(before):
         raise JournalError("bad round")
-    moment, outputs, whole = run_again(agent, text[begins[-1] :])
+    moment, outputs, whole = run_again(agent, text[begins[-1] : end])
     journal.cut(begins[-1] + whole)
     return Resumed(agent, moment, outputs)
 
@@ -215,9 +215,17 @@ def run_again(
     return moment, agent.run(moment), whole
 
 
-def _is_whole(lines: bytes) -> bool:
-    """Whether a text ends behind an event or the line of a round."""
-    return lines.endswith(b"\n") and not lines[:-1].rpartition(b"\n")[2].startswith(b" ")
+def _bounds(text: bytes, begin: int) -> List[int]:
+    """Where the rounds of a journal begin, and where the last one ends. One that ends within its
+    first line or within an event was torn: it had no effect, and isn't among them."""
+    begins = [found.start() for found in _ROUND.finditer(text, begin)]
+    end = text.rfind(b"\n") + 1
+    last_line = text.rfind(b"\n", 0, end - 1) + 1
+    if _END.match(text, end) and not text.startswith(b" ", last_line):
+        return [*begins, end]
+    if not begins:
+        raise JournalError("not a journal")
+    return begins
 
 
 def _events(lines: bytes) -> List[bytes]:
@@ -327,8 +335,7 @@ def held_by(library: str, text: bytes) -> Held:
     """What the agent of a journal holds, by running all its rounds: some 0.1 ms an event. What
     isn't whole at its end has no effect, as where it is resumed."""
     held = Held()
-    begins = [found.start() for found in _ROUND.finditer(text)]
-    if not begins:
+    if not _ROUND.search(text):
         return held
     found = _HEAD.match(text)
     if found is None:
@@ -336,12 +343,10 @@ def held_by(library: str, text: bytes) -> Held:
     local = found[1].decode().rpartition(":")
     agent = agent_of(library, (local[0], int(local[2])), text)
     try:
-        for begin, end in zip(begins, [*begins[1:], len(text)]):
-            lines = text[begin:end]
-            if end == len(text) and not _is_whole(lines):
-                break
+        bounds = _bounds(text, found.end())
+        for begin, end in zip(bounds, bounds[1:]):
             commands: List[Tuple[Id, bytes]] = []
-            _, outputs, _ = run_again(agent, lines, commands)
+            _, outputs, _ = run_again(agent, text[begin:end], commands)
             held._take_round(commands, outputs)
     finally:
         agent.close()

@@ -14,7 +14,7 @@ from unittest import mock
 from b2bua import B2bua
 from click_to_call import connect
 from scripted import Peer, Registrar, header, is_answer_right, open_peer, response
-from sip_ua import AddressError, BadValueError, Error, HeaderTypeError, Message, SipUaError
+from sip_ua import AddressError, Agent, BadValueError, Error, HeaderTypeError, Message, SipUaError
 from sip_ua_calls import (
     ALLOW,
     NO_ACK,
@@ -36,13 +36,15 @@ from sip_ua_calls import (
     open_user_agent,
 )
 from sip_ua_headers import Refer, Replaces, refer_of, refer_to, replaces_of, report_of
-from sip_ua_journal import FileJournal, JournalError, JournalFull, JournalInUse
+from sip_ua_journal import FileJournal, JournalError, JournalFull, JournalInUse, head_of, held_by
+from sip_ua_journal import resumed
 from sip_ua_registration import RegistrationFailed, granted_s, register
 from sip_ua_timers import Session, Timer
 from sip_ua_udp import LATELY_S, SentLately, open_endpoint
 
 LIBRARY = os.environ["SIP_UA_LIBRARY"]
 ANY_PORT = ("127.0.0.1", 0)
+LOOPBACK = ("127.0.0.1", 5060)
 OFFER, ANSWER = b"v=0\r\ns=offer\r\n", b"v=0\r\ns=answer\r\n"
 OPTIONS = (
     "OPTIONS sip:b@127.0.0.1 SIP/2.0\r\nVia: SIP/2.0/UDP 127.0.0.1:PORT;branch=z9hG4bKo1\r\n"
@@ -179,6 +181,48 @@ class SentLatelyTest(unittest.TestCase):
         self.assertEqual(self.lately._sent, {})
         self.lately.add(ack, self.there, 2.0)
         self.assertEqual(self.lately._sent, {})
+
+
+class JournalTest(unittest.TestCase):
+    def rounds(self) -> List[bytes]:
+        """The head of a journal, and two rounds. The first request is answered in the second round,
+        in which another one comes."""
+        agent = Agent(LIBRARY, LOOPBACK, bytes(32))
+        texts = [head_of(LOOPBACK, bytes(32))]
+        for moment, answer in ((10, ""), (20, " Allow: BYE\nrespond o1 0.1 200 plain - OK")):
+            request = OPTIONS.replace("o1", f"o{moment // 10}")
+            agent.datagram(LOOPBACK, request.replace("PORT", "5060").encode())
+            if answer:
+                agent.event_lines(answer)
+            agent.run(moment)
+            texts.append(agent.round_text())
+        agent.close()
+        return texts
+
+    def left_of(self, path: str, text: bytes) -> bytes:
+        """What stays of a journal with this text when an agent goes on from it."""
+        with open(path, "wb") as file:
+            file.write(text)
+        journal = FileJournal(path)
+        resumed(LIBRARY, LOOPBACK, None, journal).agent.close()
+        left = journal.read()
+        journal.close()
+        return left
+
+    def test_a_journal_that_was_torn_anywhere(self) -> None:
+        head, first, second = self.rounds()
+        text = head + first + second
+        with tempfile.TemporaryDirectory() as room:
+            path = os.path.join(room, "journal")
+            for length in range(len(head), len(text) + 1):
+                torn = text[:length]
+                left = self.left_of(path, torn)
+                self.assertTrue(torn.startswith(left))
+                for whole in (head, head + first, text):
+                    if torn.startswith(whole):
+                        self.assertTrue(left.startswith(whole), torn[-20:])
+                self.assertEqual(self.left_of(path, left), left)
+                self.assertEqual(held_by(LIBRARY, torn), held_by(LIBRARY, left))
 
 
 class CallsTest(unittest.IsolatedAsyncioTestCase):

@@ -156,15 +156,23 @@ static size_t last_round(char *text, size_t at, size_t len)
     return last;
 }
 
-/* How many bytes are left without a last round that ends within an event. It had no effect, and what
- * it asked for is asked for again, since the requests of the round before are told again. */
+/* Where the last line before an end begins. */
+static size_t last_line(const char *text, size_t end)
+{
+    while (text[end - 1] != '\n')
+        end--;
+    return end;
+}
+
+/* How many bytes are left without a last round that was torn: it ends within its first line or
+ * within an event. It had no effect, and what it asked for is asked for again, since the requests
+ * of the round before are told again. */
 static size_t whole_rounds(char *text, size_t at, size_t len)
 {
-    size_t line = len - 1;
-    while (line > at && text[line - 1] != '\n')
-        line--;
-    bool ends = text[len - 1] == '\n' && text[line] != ' ';
-    return ends ? len : last_round(text, at, len) + 1;
+    size_t end = last_line(text, len), word = strlen(ROUND) - 1;
+    bool is_between = strncmp(text + end, &ROUND[1], len - end < word ? len - end : word) == 0;
+    bool is_event = end == at + 1 || text[last_line(text, end - 1)] != ' ';
+    return is_between && is_event ? end : last_round(text, at, len) + 1;
 }
 
 /* Runs all rounds but the last one again. The outputs of the last one are left to `run`. Returns
