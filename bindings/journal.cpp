@@ -131,7 +131,14 @@ template <class Fault> static void fails(const char *what, const std::string &pa
 
 static void faults(const std::string &path) {
     const auto texts = journals(path).texts;
-    for (const char *text : {"hello\n", "sip-session 1\n"}) {
+    const std::string local_line = "sip-session 1\nlocal 127.0.0.1:5060\n";
+    const std::string seed_line = "seed " + std::string(64, 'a') + "\n";
+    for (const std::string &text :
+         {std::string("hello\n"), std::string("sip-session 1\n"), local_line,
+          local_line + seed_line, local_line + seed_line + "first 0",
+          local_line + seed_line + "first \n", local_line + seed_line + "first 0x\n",
+          local_line + "seed " + std::string(64, 'g') + "\nfirst 0\n",
+          local_line + "seed aa\nfirst 0\n", "sip-session 2" + texts[0].substr(13)}) {
         write(path, text);
         fails<sip::JournalError>("not a journal", path);
     }
@@ -146,6 +153,12 @@ static void faults(const std::string &path) {
     {
         sip::Journal open(path);
         fails<std::system_error>("open already", path);
+    }
+    try {
+        sip::Journal none(path + "/none");
+        must(false, "no folder");
+    } catch (const std::system_error &error) {
+        must(error.code() == std::errc::not_a_directory, "which fault");
     }
     std::filesystem::create_symlink(path, path + ".link");
     fails<std::system_error>("a symbolic link", path + ".link");

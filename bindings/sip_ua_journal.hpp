@@ -20,7 +20,6 @@
 
 #include <cerrno>
 #include <random>
-#include <regex>
 #include <system_error>
 
 namespace sip {
@@ -47,7 +46,7 @@ public:
     explicit Journal(const std::string &path, bool is_synced = false)
         : file(open(path.c_str(), O_RDWR | O_CREAT | O_APPEND | O_NOFOLLOW | O_CLOEXEC, 0600)),
           is_synced(is_synced) {
-        must(file >= 0);
+        must(file >= 0, path.c_str());
         if (flock(file, LOCK_EX | LOCK_NB) != 0) {
             const int fault = errno;
             close(file);
@@ -87,11 +86,11 @@ public:
     void append(Agent &agent) { write(agent.round_text()); }
 
 private:
-    static constexpr std::string_view round = "round ";
+    static constexpr std::string_view round = "round ", digits = "0123456789abcdef";
 
-    static void must(bool is_so, int fault = errno) {
+    static void must(bool is_so, const char *what = "journal") {
         if (!is_so)
-            throw std::system_error(fault, std::generic_category(), "journal");
+            throw std::system_error(errno, std::generic_category(), what);
     }
 
     std::string read() {
@@ -108,7 +107,8 @@ private:
     void write(std::string_view text) {
         const ssize_t size = ::write(file, text.data(), text.size());
         must(size >= 0);
-        must(static_cast<std::size_t>(size) == text.size(), ENOSPC);
+        if (static_cast<std::size_t>(size) < text.size())
+            throw std::system_error(ENOSPC, std::generic_category(), "journal");
         must(!is_synced || fsync(file) == 0);
     }
 
@@ -125,8 +125,8 @@ private:
         std::string seed;
         for (std::uint8_t &byte : configuration.seed) {
             byte = static_cast<std::uint8_t>(device());
-            for (const int digit : {byte / 16, byte % 16})
-                seed += "0123456789abcdef"[digit];
+            for (const std::size_t digit : {byte / 16, byte % 16})
+                seed += digits[digit];
         }
         write("sip-session 1\nlocal " + text_of(configuration.local) + "\nseed " + seed
               + "\nfirst 0\n");
@@ -135,19 +135,27 @@ private:
 
     // Reads the seed and the number of the first round. Returns the bytes of the head.
     static std::size_t read_head(const std::string &text, Configuration &configuration) {
-        static const std::regex form(
-            "sip-session 1\nlocal (\\S+)\nseed ([0-9a-f]{64})\nfirst ([0-9]{1,19})\n");
-        const std::string lines = text.substr(0, 256);
-        std::smatch found;
-        if (!std::regex_search(lines, found, form, std::regex_constants::match_continuous))
+        std::size_t at = 0;
+        const auto line = [&](std::string_view word) {
+            const std::size_t end = text.find('\n', at);
+            if (end == std::string::npos || text.compare(at, word.size(), word) != 0)
+                throw JournalError("not a journal");
+            const std::size_t begin = std::exchange(at, end + 1) + word.size();
+            return text.substr(begin, end - begin);
+        };
+        const std::string version = line("sip-session "), address = line("local "),
+                          seed = line("seed "), first = line("first ");
+        if (version != "1" || seed.size() != 2 * sizeof configuration.seed
+            || seed.find_first_not_of(digits) != std::string::npos || first.empty()
+            || first.size() > 19 || first.find_first_not_of("0123456789") != std::string::npos)
             throw JournalError("not a journal");
-        if (found[1] != text_of(configuration.local))
-            throw JournalError("the journal is of " + found[1].str());
-        for (std::size_t at = 0; at < sizeof configuration.seed; at++)
-            configuration.seed[at] = static_cast<std::uint8_t>(
-                std::stoi(found[2].str().substr(2 * at, 2), nullptr, 16));
-        configuration.first = std::stoull(found[3].str());
-        return static_cast<std::size_t>(found.length());
+        if (address != text_of(configuration.local))
+            throw JournalError("the journal is of " + address);
+        for (std::size_t byte = 0; byte < sizeof configuration.seed; byte++)
+            configuration.seed[byte] =
+                static_cast<std::uint8_t>(std::stoi(seed.substr(2 * byte, 2), nullptr, 16));
+        configuration.first = std::stoull(first);
+        return at;
     }
 
     // Where the last round before an end begins, if there is one.
