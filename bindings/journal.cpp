@@ -142,11 +142,15 @@ static void faults(const std::string &path) {
         write(path, text);
         fails<sip::JournalError>("not a journal", path);
     }
-    for (const char *text : {"hello", "hello\n"}) {
+    for (const char *text : {"hello", "hello\n", "round \n", "round x\nhello\n", "round -1\n",
+                             "round 99999999999999999999\n"}) {
         write(path, texts[0] + text);
         fails<sip::JournalError>("no round", path);
         must(read(path) == texts[0] + text, "nothing is cut");
     }
+    write(path, texts[1] + "round 9\nhello\n");
+    fails<sip::Error>("a moment that goes back", path);
+    must(read(path) == texts[1] + "round 9\nhello\n", "it is not cut, either");
     write(path, texts[0] + "round 10\nhello\n" + texts[1].substr(texts[0].size()));
     fails<sip::Error>("a bad round that isn't the last", path);
     write(path, texts[0]);

@@ -75,9 +75,11 @@ public:
             cut(end);
             return {std::move(agent), std::nullopt, {}};
         }
-        cut(add_events(agent, text, last, end));
-        const std::uint64_t moment = std::stoull(text.substr(last + round.size(), 20));
+        const std::size_t events = text.find('\n', last) + 1, number = last + round.size();
+        const std::uint64_t moment = number_of(text.substr(number, events - 1 - number));
+        const std::size_t whole = add_events(agent, text, events, end);
         auto outputs = agent.run(moment);
+        cut(whole);
         return {std::move(agent), moment, std::move(outputs)};
     }
 
@@ -133,6 +135,14 @@ private:
         return Agent(configuration, shards);
     }
 
+    // A number of at most 19 digits, as all are that a journal has.
+    static std::uint64_t number_of(const std::string &text) {
+        if (text.empty() || text.size() > 19
+            || text.find_first_not_of(digits.substr(0, 10)) != std::string::npos)
+            throw JournalError("not a journal");
+        return std::stoull(text);
+    }
+
     // Reads the seed and the number of the first round. Returns the bytes of the head.
     static std::size_t read_head(const std::string &text, Configuration &configuration) {
         std::size_t at = 0;
@@ -146,15 +156,14 @@ private:
         const std::string version = line("sip-session "), address = line("local "),
                           seed = line("seed "), first = line("first ");
         if (version != "1" || seed.size() != 2 * sizeof configuration.seed
-            || seed.find_first_not_of(digits) != std::string::npos || first.empty()
-            || first.size() > 19 || first.find_first_not_of("0123456789") != std::string::npos)
+            || seed.find_first_not_of(digits) != std::string::npos)
             throw JournalError("not a journal");
         if (address != text_of(configuration.local))
             throw JournalError("the journal is of " + address);
         for (std::size_t byte = 0; byte < sizeof configuration.seed; byte++)
             configuration.seed[byte] =
                 static_cast<std::uint8_t>(std::stoi(seed.substr(2 * byte, 2), nullptr, 16));
-        configuration.first = std::stoull(first);
+        configuration.first = number_of(first);
         return at;
     }
 
@@ -184,9 +193,9 @@ private:
     }
 
     // Gives the events of a round to the agent again. Returns where the last whole one ends.
-    static std::size_t add_events(Agent &agent, const std::string &text, std::size_t last,
+    static std::size_t add_events(Agent &agent, const std::string &text, std::size_t begin,
                                   std::size_t end) {
-        std::size_t whole = text.find('\n', last) + 1;
+        std::size_t whole = begin;
         for (std::size_t line = whole; line < end;) {
             const std::size_t next = text.find('\n', line) + 1;
             if (text[line] != ' ') { // a header line belongs to the command after it
