@@ -24,6 +24,10 @@ const (
 		"m=audio 41000 RTP/AVP 0\r\n"
 	// How long the ends of calls are waited for.
 	leaveTime = 5 * time.Second
+	// How many calls are held at one time. Another one gets 503, and may come again after this
+	// time, in s.
+	mostCalls  = 16384
+	retryAfter = "10"
 )
 
 type dialog struct{ callID, localTag, remoteTag string }
@@ -32,6 +36,7 @@ type answerer struct {
 	mutex     sync.Mutex
 	isLeaving bool
 	invites   map[sipua.ID]dialog // those whose 2xx waits for its ACK
+	waits     map[dialog]sipua.ID // the same by their dialogs
 	isUp      map[dialog]bool
 	byes      map[sipua.ID]bool // those that wait for their responses
 }
@@ -44,8 +49,8 @@ func main() {
 	if err != nil {
 		log.Fatal(err)
 	}
-	told := &answerer{invites: map[sipua.ID]dialog{}, isUp: map[dialog]bool{},
-		byes: map[sipua.ID]bool{}}
+	told := &answerer{invites: map[sipua.ID]dialog{}, waits: map[dialog]sipua.ID{},
+		isUp: map[dialog]bool{}, byes: map[sipua.ID]bool{}}
 	endpoint, err := sipua.Listen(context.Background(), local, sipua.Options{Told: told.tell})
 	if err != nil {
 		log.Fatal(err)
@@ -78,6 +83,7 @@ func (a *answerer) tell(endpoint *sipua.Endpoint, output sipua.Output) {
 		a.answer(endpoint, output, about)
 	case sipua.NoticeAck, sipua.NoticeNoAck:
 		delete(a.invites, output.ID)
+		delete(a.waits, invited)
 		if isOurs {
 			a.isUp[invited] = true
 		}
@@ -86,20 +92,17 @@ func (a *answerer) tell(endpoint *sipua.Endpoint, output sipua.Output) {
 		}
 	case sipua.NoticeEnded:
 		delete(a.isUp, about)
-		for id, waiting := range a.invites {
-			if waiting == about {
-				delete(a.invites, id)
-			}
-		}
+		delete(a.invites, a.waits[about])
+		delete(a.waits, about)
 	case sipua.NoticeResponse, sipua.NoticeTimeout, sipua.NoticeFailed, sipua.NoticeRefused:
 		delete(a.byes, output.ID) // its only requests are BYEs
 	}
 }
 
 func (a *answerer) answer(endpoint *sipua.Endpoint, request sipua.Output, about dialog) {
-	respond := func(status int, reason, body string) {
+	respond := func(status int, reason, body string, headers ...sipua.Header) {
 		do(endpoint, sipua.Response{CallID: request.CallID, ID: request.ID, Status: status,
-			Reason: reason, Body: []byte(body)})
+			Reason: reason, Body: []byte(body), Headers: headers})
 	}
 	switch {
 	case request.Method != "INVITE":
@@ -108,8 +111,11 @@ func (a *answerer) answer(endpoint *sipua.Endpoint, request sipua.Output, about 
 		respond(200, "OK", answer)
 	case a.isLeaving:
 		respond(480, "Temporarily Unavailable", "")
+	case len(a.invites)+len(a.isUp) >= mostCalls:
+		respond(503, "Service Unavailable", "", sipua.Header{Name: "Retry-After", Value: retryAfter})
 	default:
 		a.invites[request.ID] = about
+		a.waits[about] = request.ID
 		respond(180, "Ringing", "")
 		respond(200, "OK", answer)
 	}
