@@ -10,8 +10,9 @@ unfoldable pub hex : ℕ → ℕ → List ℕ
 hex zero number = []
 hex (suc count) number = hex count (number / 16) ++ hex_digit (number % 16) ∷ []
 
--- the last part of a name, a word of ChaCha20 (10 double rounds; rand_chacha, ChaCha), so that it
--- can't be guessed: the seed is the key, the round the stream, and each place has 16 words
+-- the last part of a name, a word of ChaCha20 (10 double rounds; rand_chacha, ChaCha), so that who
+-- hasn't seen it has 32 bits to guess: the seed is the key, the round the stream, and each place has
+-- 16 words
 abbrev pub word_of_name : List ℕ → Id → ℕ → ℕ
 word_of_name seed id index = word_at 10 (key_of seed) id.round (16 * id.place + index)
 

@@ -26,7 +26,7 @@ pub fn opening_tag(alloc: Global, seed: [u8; 32], id: Id) -> Result<Token, Alloc
 
 /// The name of an index that an event makes. It has 16 hexadecimal digits of the round, 16 of the
 /// place, one of the index, and 8 of a word of the ChaCha20 stream of the round under the seed. So
-/// two names differ, and no peer can guess one.
+/// two names differ, and who hasn't seen one has 32 bits to guess.
 pub fn made_name(alloc: Global, seed: [u8; 32], id: Id, index: u8) -> Result<Token, AllocError>
     requires { index < 16 }
     ensures { IfOk result (λ name. name ≡ name_of seed id index) }
