@@ -474,6 +474,30 @@ def a_transaction_that_takes_a_datagram_of_another_call():
 @test
 def a_response_with_the_call_id_of_another_call():
     """It answers the agent's INVITE, and makes a dialog of the call that this began."""
+    whole, tag = with_past_calls(*answered_invite("other"))
+    expect("the call", True, "notice up response 0.1 200 " in replayed(whole, "--session"))
+    last = 1_000 * CALLS + 37_000
+    bye = round_of(last, asked("BYE", "up", "bye", 2, tag))
+    expect_short(whole + round_of(last), {"up", "other"}, bye)
+
+
+@test
+def a_failed_send_in_a_call_that_is_up():
+    """It ended an INFO, which the short journal would else hold: it stays, and so do the events of
+    each other kind."""
+    whole, tag = with_past_calls(*answered_invite("up"))
+    last = 1_000 * CALLS + 37_000
+    whole += round_of(last, f"request up {tag} peer INFO -\n")
+    branch = re.search(r"send \S+ INFO .*;branch=([^\\]+)", last_round(whole))[1]
+    whole += round_of(last, f"failed client {branch} INFO\n") + round_of(last)
+    bye = round_of(last, asked("BYE", "up", "bye", 2, tag))
+    compact = expect_short(whole, {"up"}, bye)
+    for kind in ["invite", "datagram", "request", "failed"]:
+        expect(f"an event of the kind {kind}", True, f"\n{kind} " in compact)
+
+
+def answered_invite(call):
+    """A journal in which the agent's INVITE `up` gets a 200 that names this call, and its tag."""
     invite = f"invite up {PEER} sip:b@{PEER} sip:a@{OWN} sip:b@{PEER} none -\n"
     whole = SESSION + round_of(0, invite)
     sent = replayed(whole, "--session")
@@ -481,14 +505,16 @@ def a_response_with_the_call_id_of_another_call():
     whole += round_of(0, datagram(
         "SIP/2.0 200 OK", f"Via: SIP/2.0/UDP {OWN};branch={branch}",
         f"From: <sip:a@{OWN}>;tag={tag}", f"To: <sip:b@{PEER}>;tag=peer",
-        "Call-ID: other", "CSeq: 1 INVITE", f"Contact: <sip:b@{PEER}>"))
-    expect("the call", True, "notice up response 0.1 200 " in replayed(whole, "--session"))
+        f"Call-ID: {call}", "CSeq: 1 INVITE", f"Contact: <sip:b@{PEER}>"))
+    return whole, tag
+
+
+def with_past_calls(whole, tag):
+    """The journal with some OPTIONS that are over when 37 s more have passed."""
     for number in range(CALLS):
         call = f"over{number}"
         whole = with_answer(whole, 1_000 * number, call, asked("OPTIONS", call, number))
-    last = 1_000 * CALLS + 37_000
-    bye = round_of(last, asked("BYE", "up", "bye", 2, tag))
-    expect_short(whole + round_of(last), {"up", "other"}, bye)
+    return whole, tag
 
 
 # A journal without a round.
@@ -526,7 +552,7 @@ def datagram(*lines):
 
 
 def expect_short(whole, calls, after):
-    """The short journal has these calls alone, and answers alike what comes after."""
+    """The short journal has these calls alone, and answers alike what comes after. Returns it."""
     with Room() as room:
         room.journal.write_text(whole)
         short = Path(room.folder.name, "short")
@@ -536,6 +562,8 @@ def expect_short(whole, calls, after):
     found = re.findall(r"\n(?:invite |datagram .*\\nCall-ID: )([^ \\]+)", compact)
     expect("the calls of the short one", calls, set(found))
     expect("what comes after", last_round(whole + after), last_round(compact + after))
+    return compact
+
 
 @test
 def a_journal_that_is_torn_is_not_made_short():

@@ -15,7 +15,7 @@ mod rounds;
 mod server_side;
 mod texts;
 mod transactions;
-mod worked;
+pub(crate) mod worked;
 
 use crate::refusals::SHARDS;
 use crate::stop::Stop;

@@ -12,6 +12,7 @@ mod inlets;
 mod moves;
 mod queued_writer;
 mod reliable;
+mod resumes;
 mod sends;
 mod shards;
 mod sizes;
