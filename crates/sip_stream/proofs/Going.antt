@@ -111,7 +111,7 @@ write_failed before after result is counts =
     subst (λ r. Counts before after (output_failures r)) is counts
 
 -- after steps in which nothing failed
-counts_on : (before now after : Option ℕ) (count : ℕ) → Counts before now 0
+pub counts_on : (before now after : Option ℕ) (count : ℕ) → Counts before now 0
     → Counts now after count → Counts before after count
 counts_on before now after count none more =
     counts_at before after (0 + count) count (omega arith)

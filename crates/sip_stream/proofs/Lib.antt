@@ -9,3 +9,4 @@ pub mod Only
 pub mod Reading
 pub mod Written
 pub mod Carried
+pub mod Shorter

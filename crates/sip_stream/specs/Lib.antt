@@ -1,3 +1,4 @@
 pub mod Steps
 pub mod Streams
 pub mod Journals
+pub mod Shorter

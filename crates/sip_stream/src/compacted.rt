@@ -1,13 +1,17 @@
 //! Compacts a journal, and checks what came of it.
 
-ghost use Rattle.std.specs.Prelude.{◌≡◌, ◌<◌, ◌≤◌, ℕ, IfNone, IfOk, IfSome, List};
+ghost use Rattle.std.specs.Prelude.{◌≡◌, ◌≢◌, ◌<◌, ◌≤◌, ◌⊎◌, ℕ, IfErr, IfNone, IfOk, IfSome, List};
+ghost use Rattle.sip_files.specs.Counted.{Counts};
 ghost use Rattle.sip_files.specs.declared.version.FileKind.TheVariants.{Session};
 ghost use Rattle.sip_round.specs.AgentState.{shard_count};
 ghost use Rattle.sip_stream.specs.Journals.{LeaveOthers};
+ghost use Rattle.sip_stream.specs.Shorter.{Shortens};
 ghost use Rattle.sip_stream.specs.Streams.{StandsForFile};
+ghost use Rattle.sip_stream.specs.declared.stream_fault.StreamFault.TheVariants as stream_fault;
 
 use crate::compaction::write_shorter;
 use crate::equivalence::leaves_the_same;
+use crate::in_memory::InMemory;
 use crate::one_cut::OneCut;
 use crate::stream_fault::StreamFault;
 use sip_files::CountedRead;
@@ -29,7 +33,7 @@ pub struct Compacted<C: OneCut> {
 ///
 /// # Errors
 ///
-/// As of `write_shorter` and `leaves_the_same`.
+/// As of `write_shorter` and `leaves_the_same`, but for `Output`.
 pub fn compact<T: Threads + Sync, K: CountedRead, L: CountedRead, M: CountedRead, C: OneCut + Copy>(
     rt: &T,
     alloc: Global,
@@ -53,16 +57,47 @@ pub fn compact<T: Threads + Sync, K: CountedRead, L: CountedRead, M: CountedRead
     ensures count { IfOk result (λ given. IfSome given
         (λ compacted. shard_count compacted.agent ≡ shards)) }
 
-    // There is none only if the shorter journal leaves something else.
-    ensures none { IfOk result (λ given. IfNone given (IfSome (M.remaining once_more.old)
-        (λ long. (short : List ℕ) × LeaveOthers long short))) }
+    // The text is a shorter journal, and so is one that leaves something else, if there is none.
+    ensures shortens { IfOk result (λ given. IfSome given (λ compacted.
+        IfSome (L.remaining again.old) (λ long. Shortens long compacted.text.items))) }
+    ensures none { IfOk result (λ given. IfNone given (IfSome (L.remaining again.old)
+        (λ long. IfSome (M.remaining once_more.old) (λ journal. (short : List ℕ)
+        × Shortens long short × LeaveOthers journal short)))) }
+
+    // That a read failed is told only where one of the three failed.
+    ensures input { IfErr result (λ fault. fault ≡ stream_fault.Input
+        → Counts (K.failures journal.old) (K.failures journal.new) 1
+        ⊎ Counts (L.failures again.old) (L.failures again.new) 1
+        ⊎ Counts (M.failures once_more.old) (M.failures once_more.new) 1) }
+    ensures unwritten { IfErr result (λ fault. fault ≢ stream_fault.Output) }
 {
-    let mut text = Vec::new(alloc);
-    write_shorter(alloc, journal, again, &mut text)?;
-    let mut short: &[u8] = &text;
+    let text = shorter_text(alloc, journal, again)?;
+    let mut short = InMemory { left: &text };
     let agent = leaves_the_same(rt, alloc, once_more, &mut short, shards, workers, cut)?;
     match agent {
         Some(agent) => Ok(Some(Compacted { text, agent })),
         None => Ok(None),
+    }
+}
+
+// The shorter journal.
+fn shorter_text<K: CountedRead, L: CountedRead>(
+    alloc: Global,
+    journal: &mut K,
+    again: &mut L,
+) -> Result<Vec<u8>, StreamFault>
+    ensures shortens { IfOk result (λ text. IfSome (L.remaining again.old)
+        (λ long. Shortens long text.items)) }
+    ensures input { IfErr result (λ fault. fault ≡ stream_fault.Input
+        → Counts (K.failures journal.old) (K.failures journal.new) 1
+        ⊎ Counts (L.failures again.old) (L.failures again.new) 1) }
+    ensures unwritten { IfErr result (λ fault. fault ≢ stream_fault.Output) }
+{
+    let mut text = Vec::new(alloc);
+    match write_shorter(alloc, journal, again, &mut text) {
+        Ok(()) => Ok(text),
+        // It has no room for more.
+        Err(StreamFault::Output) => Err(StreamFault::NoMemory),
+        Err(fault) => Err(fault),
     }
 }

@@ -1,5 +1,14 @@
 //! Writes a shorter journal.
 
+ghost use Rattle.std.specs.Prelude.{◌≡◌, ◌+◌, ◌<◌, ◌⊎◌, Err, IfErr, IfOk, IfSome, List, OnErr, OnOk, ℕ};
+ghost use Rattle.std.specs.Io.KnownBytes.{Appends};
+ghost use Rattle.sip_files.specs.Counted.{Counts};
+ghost use Rattle.sip_files.specs.Written.{session_round_text};
+ghost use Rattle.sip_round.specs.declared.round.Round.{Round as ARound};
+ghost use Rattle.sip_stream.specs.Shorter.{Shortens, Thins};
+ghost use Rattle.sip_stream.specs.Streams.{input_failures, output_failures};
+ghost use Rattle.sip_stream.specs.declared.stream_fault.StreamFault.TheVariants as stream_fault;
+
 use crate::call_records::CallRecords;
 use crate::journal_rounds::JournalRounds;
 use crate::kept_events::kept_events;
@@ -30,18 +39,31 @@ struct Choice {
 ///
 /// # Errors
 ///
-/// The first fault that comes. `Output` at the first write or flush that fails.
+/// The first fault that comes. `Output` at the first write or flush that fails. `NoMemory` also if
+/// the second reader gives other rounds.
 pub fn write_shorter<L: CountedRead, M: CountedRead, W: CountedWrite>(
     alloc: Global,
     journal: &mut L,
     again: &mut M,
     shorter: &mut W,
-) -> Result<(), StreamFault> {
+) -> Result<(), StreamFault>
+    ensures shortens { OnOk result (IfSome (M.remaining again.old) (λ long. (short : List ℕ)
+        × Shortens long short
+        × Appends (W.contents shorter.old) (W.contents shorter.new) short)) }
+
+    // That a read failed is told only where one of the two failed.
+    ensures input { IfErr result (λ fault. fault ≡ stream_fault.Input
+        → Counts (L.failures journal.old) (L.failures journal.new) 1
+        ⊎ Counts (M.failures again.old) (M.failures again.new) 1) }
+    ensures output { Counts (W.failures shorter.old) (W.failures shorter.new)
+        (output_failures result) }
+{
     let choice = choose(alloc, journal)?;
     let mut rounds = JournalRounds::new(alloc, again)?;
+    let head = rounds.config();
     let config = Config {
-        first: choice.first,
-        ..rounds.config()
+        first: choice.first.max(head.first),
+        ..head
     };
     write(
         shorter,
@@ -50,17 +72,22 @@ pub fn write_shorter<L: CountedRead, M: CountedRead, W: CountedWrite>(
     for _ in 0..u64::MAX {
         let number = rounds.number();
         let Some(round) = rounds.next_round(again)? else {
-            return Ok(());
+            return choice.end(head.first, config.first, number);
         };
-        if let Some(lines) = choice.lines_of(alloc, number, round)? {
-            write(shorter, &lines)?;
+        if number >= config.first {
+            write(shorter, &choice.lines_of(alloc, number, round)?)?;
         }
     }
     // A journal has fewer rounds.
     Err(StreamFault::NoMemory)
 }
 
-fn write<W: CountedWrite>(writer: &mut W, text: &[u8]) -> Result<(), StreamFault> {
+fn write<W: CountedWrite>(writer: &mut W, text: &[u8]) -> Result<(), StreamFault>
+    ensures all { OnOk result (Appends (W.contents writer.old) (W.contents writer.new) text.now) }
+    ensures fault { OnErr result (result ≡ Err stream_fault.Output) }
+    ensures output { Counts (W.failures writer.old) (W.failures writer.new)
+        (output_failures result) }
+{
     match write_whole(writer, text) {
         Ok(()) => Ok(()),
         Err(_) => Err(StreamFault::Output),
@@ -68,27 +95,41 @@ fn write<W: CountedWrite>(writer: &mut W, text: &[u8]) -> Result<(), StreamFault
 }
 
 impl Choice {
-    // The lines that stand for this round; none before the first one that is kept.
-    fn lines_of(
-        &self,
-        alloc: Global,
-        number: u64,
-        round: Round,
-    ) -> Result<Option<Vec<u8>>, AllocError> {
-        if number < self.first {
-            return Ok(None);
+    // The lines that stand for this round.
+    fn lines_of(&self, alloc: Global, number: u64, round: Round) -> Result<Vec<u8>, AllocError>
+        ensures { IfOk result (λ text. (kept : ARound) × Thins round kept
+            × (number ≡ self.now.last → kept ≡ round)
+            × (text.items ≡ session_round_text kept)) }
+    {
+        if number == self.last {
+            return write_file_round(alloc, FileKind::Session, &round);
         }
-        let round = if number == self.last {
-            round
+        let kept = kept_events(alloc, &self.records, number, round)?;
+        write_file_round(alloc, FileKind::Session, &kept)
+    }
+
+    // The end of rounds from this first number up to the one before `next`, of which those from
+    // `kept` on were written. It is one if the last one is the last that was chosen.
+    fn end(&self, first: u64, kept: u64, next: u64) -> Result<(), StreamFault>
+        ensures ends { OnOk result ((next ≡ first) × (kept ≡ first)
+            ⊎ (kept < next) × (next ≡ self.now.last + 1)) }
+        ensures fault { OnErr result (result ≡ Err stream_fault.NoMemory) }
+    {
+        let is_empty = next == first && kept == first;
+        let is_last = kept < next && Some(next) == self.last.checked_add(1);
+        if is_empty || is_last {
+            Ok(())
         } else {
-            kept_events(alloc, &self.records, number, round)?
-        };
-        Ok(Some(write_file_round(alloc, FileKind::Session, &round)?))
+            Err(StreamFault::NoMemory)
+        }
     }
 }
 
 // Runs a journal, and finds of which calls something may be held at its end.
-fn choose<R: CountedRead>(alloc: Global, reader: &mut R) -> Result<Choice, StreamFault> {
+fn choose<R: CountedRead>(alloc: Global, reader: &mut R) -> Result<Choice, StreamFault>
+    ensures input { Counts (R.failures reader.old) (R.failures reader.new) (input_failures result) }
+    ensures unwritten { output_failures result ≡ 0 }
+{
     let mut rounds = JournalRounds::new(alloc, reader)?;
     let Ok(mut agent) = Agent::new(alloc, rounds.config(), 1, First) else {
         return Err(StreamFault::NoMemory);
@@ -119,7 +160,10 @@ fn choose<R: CountedRead>(alloc: Global, reader: &mut R) -> Result<Choice, Strea
 }
 
 // Runs the round with this index.
-fn run(agent: &mut Agent<First>, index: u64, round: &Round) -> Result<Vec<Output>, StreamFault> {
+fn run(agent: &mut Agent<First>, index: u64, round: &Round) -> Result<Vec<Output>, StreamFault>
+    ensures input { input_failures result ≡ 0 }
+    ensures unwritten { output_failures result ≡ 0 }
+{
     match agent.run_round_in_turn(round) {
         Ok(outputs) => Ok(outputs),
         Err(RoundFault::NoMemory { .. }) => Err(StreamFault::NoMemory),

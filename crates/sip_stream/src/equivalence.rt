@@ -1,11 +1,12 @@
 //! Whether two journals leave agents that answer all that follows alike.
 
-ghost use Rattle.std.specs.Prelude.{◌≡◌, ◌<◌, ◌≤◌, ◌⊎◌, IfErr, IfNone, IfOk, IfSome};
+ghost use Rattle.std.specs.Prelude.{◌≡◌, ◌≢◌, ◌<◌, ◌≤◌, ◌⊎◌, IfErr, IfNone, IfOk, IfSome};
 ghost use Rattle.sip_files.specs.Counted.{Counts};
 ghost use Rattle.sip_round.specs.AgentState.{shard_count};
 ghost use Rattle.sip_stream.specs.Journals.{LeaveOthers};
 ghost use Rattle.sip_files.specs.declared.version.FileKind.TheVariants.{Session};
 ghost use Rattle.sip_stream.specs.Streams.{StandsForFile, TellsStream, failed_reads};
+ghost use Rattle.sip_stream.specs.declared.stream_fault.StreamFault.TheVariants as stream_fault;
 
 use crate::one_cut::OneCut;
 use crate::resumed_agent::resumed_by;
@@ -57,6 +58,7 @@ pub fn leaves_the_same<T: Threads + Sync, L: CountedRead, S: CountedRead, C: One
     ensures input { IfErr result (λ fault.
         Counts (L.failures long.old) (L.failures long.new) (failed_reads fault)
         ⊎ Counts (S.failures short.old) (S.failures short.new) (failed_reads fault)) }
+    ensures unwritten { IfErr result (λ fault. fault ≢ stream_fault.Output) }
 {
     let after_long = resumed_by(rt, alloc, FileKind::Session, long, shards, workers, cut)?;
     let after_short = resumed_by(rt, alloc, FileKind::Session, short, shards, workers, cut)?;

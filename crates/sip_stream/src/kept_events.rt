@@ -1,5 +1,9 @@
 //! The events of a round that a shorter journal keeps.
 
+ghost use Rattle.std.specs.Prelude.{◌≡◌, IfOk};
+ghost use Rattle.sip_stream.specs.Shorter as spec;
+ghost use Rattle.sip_stream.specs.Shorter.{StaysOrIsNothing, Thins};
+
 use crate::call_records::CallRecords;
 use sip_message::Addr;
 use sip_round::{Event, Round};
@@ -24,25 +28,42 @@ pub(crate) fn kept_events(
     records: &CallRecords,
     number: u64,
     round: Round,
-) -> Result<Round, AllocError> {
+) -> Result<Round, AllocError>
+    ensures { IfOk result (Thins round) }
+{
     let Round { moment, events } = round;
     let mut kept = Vec::new(alloc);
     let mut len = 0;
     for event in events.into_vec() {
-        if records.keep(number, &event)? {
-            kept.push(event)?;
-            len = kept.len();
-        } else {
-            kept.push(nothing(alloc))?;
-        }
+        let (event, stays) = kept_or_nothing(alloc, records, number, event)?;
+        kept.push(event)?;
+        len = if stays { kept.len() } else { len };
     }
     kept.truncate(len);
     let events = Series::from_vec(kept);
     Ok(Round { moment, events })
 }
 
+// The event, or one that does nothing; and whether the event stays.
+fn kept_or_nothing(
+    alloc: Global,
+    records: &CallRecords,
+    number: u64,
+    event: Event,
+) -> Result<(Event, bool), AllocError>
+    ensures { IfOk result (λ kept. StaysOrIsNothing event kept.0) }
+{
+    if records.keep(number, &event)? {
+        Ok((event, true))
+    } else {
+        Ok((nothing(alloc), false))
+    }
+}
+
 // An event that does nothing.
-fn nothing(alloc: Global) -> Event {
+fn nothing(alloc: Global) -> Event
+    ensures { result ≡ spec.nothing }
+{
     let bytes = Text::from_vec(Vec::new(alloc));
     Event::Datagram {
         from: NOWHERE,

@@ -9,6 +9,7 @@ mod compacted;
 mod compaction;
 mod equivalence;
 mod event_names;
+mod in_memory;
 mod journal_rounds;
 mod kept_events;
 mod one_cut;

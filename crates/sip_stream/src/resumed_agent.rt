@@ -1,9 +1,10 @@
 //! The agent that a file leaves.
 
-ghost use Rattle.std.specs.Prelude.{◌≡◌, ◌<◌, ◌≤◌, IfErr, IfOk, IfSome};
+ghost use Rattle.std.specs.Prelude.{◌≡◌, ◌≢◌, ◌<◌, ◌≤◌, IfErr, IfOk, IfSome};
 ghost use Rattle.sip_files.specs.Counted.{Counts};
 ghost use Rattle.sip_round.specs.AgentState.{shard_count};
 ghost use Rattle.sip_stream.specs.Streams.{StandsForFile, TellsStream, input_failures};
+ghost use Rattle.sip_stream.specs.declared.stream_fault.StreamFault.TheVariants as stream_fault;
 
 use crate::stream_fault::StreamFault;
 use crate::streamed_replay::stream;
@@ -20,7 +21,7 @@ use std::thread::Threads;
 ///
 /// # Errors
 ///
-/// As of `replay_streamed`, to a writer that never fails.
+/// As of `replay_streamed`, but for `Output`.
 pub fn resumed_by<T: Threads + Sync, R: CountedRead, C: Cut + Drop>(
     rt: &T,
     alloc: Global,
@@ -40,17 +41,15 @@ pub fn resumed_by<T: Threads + Sync, R: CountedRead, C: Cut + Drop>(
     ensures fault { IfErr result
         (λ fault. IfSome (R.remaining reader.old) (TellsStream kind fault)) }
     ensures input { Counts (R.failures reader.old) (R.failures reader.new) (input_failures result) }
+    ensures unwritten { IfErr result (λ fault. fault ≢ stream_fault.Output) }
 {
     let mut nowhere = io::sink();
-    stream(
-        rt,
-        alloc,
-        kind,
-        reader,
-        &mut nowhere,
-        shards,
-        workers,
-        cut,
-        &OpenGate,
-    )
+    let sink = &mut nowhere;
+    match stream(
+        rt, alloc, kind, reader, sink, shards, workers, cut, &OpenGate,
+    ) {
+        // A sink takes all.
+        Err(StreamFault::Output) => Err(StreamFault::NoMemory),
+        end => end,
+    }
 }

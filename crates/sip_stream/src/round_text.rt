@@ -1,4 +1,4 @@
-//! The lines of one round, read behind a head.
+//! The lines of a head, and those of one round, read behind a head.
 
 ghost use Rattle.std.specs.Prelude.{◌≡◌, ◌≢◌, ◌≤◌, ◌^◌, ◌++◌, ◌∷◌, [], IfErr, IfNone, IfOk, IfSome, List, OnOk, length, ℕ};
 ghost use Rattle.sip_files.specs.EventFile.{SpellsFile, TellsFault, version_line};
@@ -7,7 +7,7 @@ ghost use Rattle.sip_files.specs.declared.version.FileKind.{FileKind};
 ghost use Rattle.sip_files.specs.declared.version.Version.{Version};
 ghost use Rattle.sip_files.specs.Rounds.{some_config};
 ghost use Rattle.sip_round.specs.declared.config.Config.{Config as AConfig};
-ghost use Rattle.sip_stream.specs.Steps.{TellsRound};
+ghost use Rattle.sip_stream.specs.Steps.{TellsHead, TellsRound};
 ghost use Rattle.sip_stream.specs.Streams.{behind_head};
 
 use crate::stream_fault::StreamFault;
@@ -37,6 +37,24 @@ pub(crate) fn head_like(alloc: Global, file: &[u8]) -> Result<Vec<u8>, AllocErro
     head.push(b'\n')?;
     head.extend_from_slice(others)?;
     Ok(head)
+}
+
+/// The configuration that these lines say, if they are a head.
+///
+/// # Errors
+///
+/// `Head` with the first fault that fits, or `NoMemory`.
+pub(crate) fn read_head(alloc: Global, kind: FileKind, lines: &[u8]) -> Result<Config, StreamFault>
+    ensures found { IfOk result (λ config. SpellsFile kind config [] lines.now) }
+    ensures size { OnOk result (length lines.now ≤ 2 ^ 26) }
+    ensures fault { IfErr result (TellsHead kind lines.now) }
+{
+    match read_file(alloc, kind, lines) {
+        Ok((config, rounds)) if rounds.is_empty() => Ok(config),
+        // The lines before the first round have none.
+        Ok(_) | Err(EventsFault::NoMemory) => Err(StreamFault::NoMemory),
+        Err(fault) => Err(StreamFault::Head(fault)),
+    }
 }
 
 /// The round with this index, if these lines are those of one round behind a head.

@@ -1,19 +1,18 @@
 //! Replays a file round by round.
 
-ghost use Rattle.std.specs.Prelude.{◌≡◌, ◌<◌, ◌≤◌, ◌^◌, [], IfErr, IfOk, IfSome, IsTrue, OnErr, OnOk, length};
+ghost use Rattle.std.specs.Prelude.{◌≡◌, ◌<◌, ◌≤◌, IfErr, IfOk, IfSome, IsTrue, OnErr, OnOk};
 ghost use Rattle.sip_files.specs.Counted.{Counts};
-ghost use Rattle.sip_files.specs.EventFile.{SpellsFile};
 ghost use Rattle.sip_round.specs.AgentState.{shard_count};
-ghost use Rattle.sip_stream.specs.Steps.{Ends, TellsHead};
+ghost use Rattle.sip_stream.specs.Steps.{Ends};
 ghost use Rattle.sip_stream.specs.Streams.{ComesOnly, StandsForFile, StreamsAll, StreamsFront, TellsStream, WritesBefore, input_failures, output_failures};
 
 use crate::round_reader::RoundReader;
-use crate::round_text::{head_like, read_round};
+use crate::round_text::{head_like, read_head, read_round};
 use crate::stream_fault::StreamFault;
 use crate::streaming::{OUTPUTS_HEAD, Streaming};
-use sip_files::{CountedRead, CountedWrite, EventsFault, FileKind, read_file, write_whole};
+use sip_files::{CountedRead, CountedWrite, FileKind, write_whole};
 use sip_message::Cut;
-use sip_round::{Agent, Config, Gate};
+use sip_round::{Agent, Gate};
 use std::alloc::Global;
 use std::thread::Threads;
 
@@ -105,18 +104,4 @@ pub(crate) fn stream<T: Threads + Sync, R: CountedRead, W: CountedWrite, C: Cut 
     }
     // An agent has fewer rounds.
     Err(StreamFault::NoMemory)
-}
-
-// The configuration that a head says.
-fn read_head(alloc: Global, kind: FileKind, lines: &[u8]) -> Result<Config, StreamFault>
-    ensures found { IfOk result (λ config. SpellsFile kind config [] lines.now) }
-    ensures size { OnOk result (length lines.now ≤ 2 ^ 26) }
-    ensures fault { IfErr result (TellsHead kind lines.now) }
-{
-    match read_file(alloc, kind, lines) {
-        Ok((config, rounds)) if rounds.is_empty() => Ok(config),
-        // The lines before the first round have none.
-        Ok(_) | Err(EventsFault::NoMemory) => Err(StreamFault::NoMemory),
-        Err(fault) => Err(StreamFault::Head(fault)),
-    }
 }
