@@ -18,6 +18,7 @@ use Rattle.sip_files.proofs.HeadLines.{is_config}
 use Rattle.sip_files.proofs.WrittenLaws.{head_is, text_of, whole_head}
 use Rattle.sip_files.proofs.WrittenSessions.{session_is_spelled}
 use Rattle.sip_stream.specs.Shorter.{Shortens, StaysOrIsNothing, Thins}
+use Rattle.sip_stream.specs.Steps.{IsShortened, from}
 use Rattle.sip_stream.proofs.Joined.{joined, zip_append}
 
 -- ---- answers
@@ -157,36 +158,19 @@ before_end (Some xs) None lines none consumed ended = elim consumed [ ]
 before_end (Some xs) (Some ys) lines none consumed ended =
     consumed ∙ ap (λ (l : List ℕ). l ++ ys) none ∙ ended
 
-abbrev from : ℕ → Config → Config
-from number config = record config { first = number }
-
--- Rounds were read up to the one before this number, and those from the chosen one on were written,
--- the last one as it was.
-pub record Going (chosen last : ℕ) (config : Config) (number : ℕ)
-    (input pending old new : Option (List ℕ)) : Type 0 where
-  head : List ℕ
-  lines : List ℕ
-  rounds : List Round
-  before : List Round
-  rest : List Round
-  kept : List Round
-  configured : SpellsSession config [] head
-  say : SpellsRounds lines rounds
-  consumed : Consumes input pending (head ++ lines)
-  numbered : number ≡ config.first + length rounds
-  parts : rounds ≡ before ++ rest
-  thins : AllZip Thins rest kept
-  skipped : number ≤ chosen → rest ≡ []
-  counted : chosen ≤ number → chosen ≡ config.first + length before
-  ends : number ≡ last + 1 → chosen < number → (others : List Round) (round : Round)
-      → rounds ≡ others ++ round ∷ [] → (front : List Round) × (kept ≡ front ++ round ∷ [])
-  appended : Appends old new (session_text (from chosen config) kept)
+-- the same of a configuration that stays
+pub of_config : (chosen last number : ℕ) (config other : Config)
+    (input pending old new : Option (List ℕ)) → other ≡ config
+    → IsShortened chosen last config number input pending old new
+    → IsShortened chosen last other number input pending old new
+of_config chosen last number config other input pending old new same =
+    subst (λ (c : Config). IsShortened chosen last c number input pending old new) (sym same)
 
 pub begun : (chosen last : ℕ) (config : Config) (number : ℕ) (input pending old new : Option (List ℕ))
     (head bytes : List ℕ) → SpellsSession config [] head → Consumes input pending head
     → number ≡ config.first → config.first ≤ chosen
     → bytes ≡ session_head_text (from chosen config) → Appends old new bytes
-    → Going chosen last config number input pending old new
+    → IsShortened chosen last config number input pending old new
 begun chosen last config number input pending old new head bytes configured consumed first low text
     appended = record {
       head = head;
@@ -209,7 +193,7 @@ begun chosen last config number input pending old new head bytes configured cons
     }
 
 module _ {chosen last : ℕ} {config : Config} {number : ℕ} {input pending old new : Option (List ℕ)}
-    (g : Going chosen last config number input pending old new) (next : Option (List ℕ))
+    (g : IsShortened chosen last config number input pending old new) (next : Option (List ℕ))
     (after : ℕ) (lines : List ℕ) (round : Round) (says : SpellsRound lines round)
     (consumed : Consumes pending next lines) (is_next : after ≡ number + 1) where
   taken : Consumes input next (g.head ++ (g.lines ++ lines))
@@ -219,7 +203,7 @@ module _ {chosen last : ℕ} {config : Config} {number : ℕ} {input pending old
   counted_on : after ≡ config.first + length (g.rounds ++ round ∷ [])
   counted_on = omega (arith, is_next, g.numbered, length-append g.rounds (round ∷ []))
 
-  pub skips : number < chosen → Going chosen last config after input next old new
+  pub skips : number < chosen → IsShortened chosen last config after input next old new
   skips below =
       let low : number ≤ chosen = omega (arith, below) in
       let none = g.skipped low in
@@ -257,7 +241,7 @@ module _ {chosen last : ℕ} {config : Config} {number : ℕ} {input pending old
 
   pub keeps : (newer : Option (List ℕ)) (kept : Round) (text : List ℕ) → chosen ≤ number
       → Thins round kept → (number ≡ last → kept ≡ round) → text ≡ session_round_text kept
-      → Appends new newer text → Going chosen last config after input next old newer
+      → Appends new newer text → IsShortened chosen last config after input next old newer
   keeps newer kept text reached thin whole is appended = record {
     head = g.head;
     lines = g.lines ++ lines;
@@ -292,7 +276,7 @@ IsEnd chosen last first number =
 
 pub ended : {chosen last : ℕ} {config : Config} {number : ℕ}
     {input pending old new : Option (List ℕ)}
-    (g : Going chosen last config number input pending old new) → IsAtEnd pending
+    (g : IsShortened chosen last config number input pending old new) → IsAtEnd pending
     → IsEnd chosen last config.first number
     → IfSome input (λ long. (short : List ℕ) × Shortens long short × Appends old new short)
 ended {chosen} {last} {config} {number} {input} {pending} {old} {new} g is_end end =

@@ -1,20 +1,22 @@
 -- Steps of a replay round by round.
-use Rattle.std.specs.Prelude.{◌≡◌, ◌≢◌, ℕ, Bool, IsTrue, List, [], ◌∷◌, ◌++◌, length, Option, None, Some, IfErr, IfSome, OnOk, Result}
+use Rattle.std.specs.Prelude.{◌≡◌, ◌≢◌, ◌≤◌, ◌<◌, ◌+◌, ℕ, Bool, IsTrue, List, [], ◌∷◌, ◌++◌, length, Option, None, Some, IfErr, IfSome, OnOk, Result}
 use Rattle.std.specs.Io.KnownBytes.{Appends, Consumes}
+use Rattle.std.specs.List.{AllZip}
 use Rattle.sip_files.specs.Counted.{Counts}
-use Rattle.sip_files.specs.EventFile.{SpellsFile, TellsFault}
+use Rattle.sip_files.specs.EventFile.{SpellsFile, SpellsSession, TellsFault}
 use Rattle.sip_files.specs.Replay.{answer_file}
-use Rattle.sip_files.specs.Written.{head_in}
+use Rattle.sip_files.specs.Written.{head_in, session_text}
 use Rattle.sip_files.specs.declared.events_fault.EventsFault.TheVariants as events_fault
 use Rattle.sip_files.specs.declared.version.FileKind.{FileKind}
 use Rattle.sip_files.specs.declared.version.Version.{Version}
-use Rattle.sip_files.specs.Rounds.{some_config}
+use Rattle.sip_files.specs.Rounds.{SpellsRounds, some_config}
 use Rattle.sip_round.specs.AgentState.{AgentState}
 use Rattle.sip_round.specs.Answers.{StandsFor, refused}
 use Rattle.sip_round.specs.declared.config.Config.{Config}
 use Rattle.sip_round.specs.declared.round.Round.{Round}
 use Rattle.sip_round.specs.declared.round_fault.RoundFault.{RoundFault}
 use Rattle.sip_round.specs.declared.round_fault.RoundFault.TheVariants as round_fault
+use Rattle.sip_stream.specs.Shorter.{Thins}
 use Rattle.sip_stream.specs.Streams.{IsRounds, StreamsAll, StreamsFront, TellsLines, TellsStream, WritesBefore, input_failures, output_failures}
 use Rattle.sip_stream.specs.declared.stream_fault.StreamFault.{StreamFault}
 use Rattle.sip_stream.specs.declared.stream_fault.StreamFault.TheVariants as fault
@@ -122,3 +124,30 @@ pub record Ends {T : Type 0} (kind : FileKind) (input old_bytes new_bytes : Opti
   pub reads : Counts old_reads new_reads (input_failures result)
   pub writes : Counts old_writes new_writes (output_failures result)
   pub all_flushed : OnOk result (IfSome flushed (λ all. IsTrue all))
+
+-- ---- a shorter journal
+
+abbrev pub from : ℕ → Config → Config
+from number config = record config { first = number }
+
+-- Rounds were read up to the one before this number, and those from the chosen one on were written,
+-- the last one as it was.
+pub record IsShortened (chosen last : ℕ) (config : Config) (number : ℕ)
+    (input pending old new : Option (List ℕ)) : Type 0 where
+  pub head : List ℕ
+  pub lines : List ℕ
+  pub rounds : List Round
+  pub before : List Round
+  pub rest : List Round
+  pub kept : List Round
+  pub configured : SpellsSession config [] head
+  pub say : SpellsRounds lines rounds
+  pub consumed : Consumes input pending (head ++ lines)
+  pub numbered : number ≡ config.first + length rounds
+  pub parts : rounds ≡ before ++ rest
+  pub thins : AllZip Thins rest kept
+  pub skipped : number ≤ chosen → rest ≡ []
+  pub counted : chosen ≤ number → chosen ≡ config.first + length before
+  pub ends : number ≡ last + 1 → chosen < number → (others : List Round) (round : Round)
+      → rounds ≡ others ++ round ∷ [] → (front : List Round) × (kept ≡ front ++ round ∷ [])
+  pub appended : Appends old new (session_text (from chosen config) kept)

@@ -1,11 +1,12 @@
 //! Writes a shorter journal.
 
-ghost use Rattle.std.specs.Prelude.{◌≡◌, ◌+◌, ◌<◌, ◌⊎◌, Err, IfErr, IfOk, IfSome, List, OnErr, OnOk, ℕ};
-ghost use Rattle.std.specs.Io.KnownBytes.{Appends};
+ghost use Rattle.std.specs.Prelude.{◌≡◌, ◌+◌, ◌<◌, ◌⊎◌, Err, IfErr, IfOk, IfSome, List, OnErr, OnOk, Option, ℕ};
+ghost use Rattle.std.specs.Io.KnownBytes.{Appends, prepend_known};
 ghost use Rattle.sip_files.specs.Counted.{Counts};
 ghost use Rattle.sip_files.specs.Written.{session_round_text};
 ghost use Rattle.sip_round.specs.declared.round.Round.{Round as ARound};
 ghost use Rattle.sip_stream.specs.Shorter.{Shortens, Thins};
+ghost use Rattle.sip_stream.specs.Steps.{IsShortened};
 ghost use Rattle.sip_stream.specs.Streams.{input_failures, output_failures};
 ghost use Rattle.sip_stream.specs.declared.stream_fault.StreamFault.TheVariants as stream_fault;
 
@@ -69,13 +70,36 @@ pub fn write_shorter<L: CountedRead, M: CountedRead, W: CountedWrite>(
         shorter,
         &write_file_head(alloc, FileKind::Session, &config)?,
     )?;
+    let first = config.first;
+    write_rounds(alloc, &choice, first, &mut rounds, again, shorter)
+}
+
+// Writes the rounds from this first one on.
+fn write_rounds<R: CountedRead, W: CountedWrite>(
+    alloc: Global,
+    choice: &Choice,
+    first: u64,
+    rounds: &mut JournalRounds,
+    reader: &mut R,
+    writer: &mut W,
+) -> Result<(), StreamFault>
+    ensures shortens { OnOk result ((input before : Option (List ℕ))
+        → IsShortened first choice.now.last rounds.old.config rounds.old.number input
+        (prepend_known rounds.old.input.text.items (R.remaining reader.old)) before
+        (W.contents writer.old)
+        → IfSome input (λ long. (short : List ℕ) × Shortens long short
+        × Appends before (W.contents writer.new) short)) }
+    ensures input { Counts (R.failures reader.old) (R.failures reader.new) (input_failures result) }
+    ensures output { Counts (W.failures writer.old) (W.failures writer.new)
+        (output_failures result) }
+{
     for _ in 0..u64::MAX {
         let number = rounds.number();
-        let Some(round) = rounds.next_round(again)? else {
-            return choice.end(head.first, config.first, number);
+        let Some(round) = rounds.next_round(reader)? else {
+            return choice.end(rounds.config().first, first, number);
         };
-        if number >= config.first {
-            write(shorter, &choice.lines_of(alloc, number, round)?)?;
+        if number >= first {
+            write(writer, &choice.lines_of(alloc, number, round)?)?;
         }
     }
     // A journal has fewer rounds.
@@ -95,6 +119,36 @@ fn write<W: CountedWrite>(writer: &mut W, text: &[u8]) -> Result<(), StreamFault
 }
 
 impl Choice {
+    // Runs the rounds, and chooses by what they leave.
+    fn take_rounds<R: CountedRead>(
+        &mut self,
+        agent: &mut Agent<First>,
+        rounds: &mut JournalRounds,
+        reader: &mut R,
+    ) -> Result<(), StreamFault>
+        ensures input { Counts (R.failures reader.old) (R.failures reader.new)
+            (input_failures result) }
+        ensures unwritten { output_failures result ≡ 0 }
+    {
+        let mut moment = 0;
+        for _ in 0..u64::MAX {
+            let (index, number) = (rounds.index(), rounds.number());
+            let Some(round) = rounds.next_round(reader)? else {
+                break;
+            };
+            let outputs = run(agent, index, &round)?;
+            self.records.take_round(number, &round, &outputs)?;
+            self.last = number;
+            moment = round.moment;
+        }
+        self.records.forget(moment)?;
+        self.first = match self.records.first_round() {
+            Some(first) if first < self.last => first,
+            _ => self.last,
+        };
+        Ok(())
+    }
+
     // The lines that stand for this round.
     fn lines_of(&self, alloc: Global, number: u64, round: Round) -> Result<Vec<u8>, AllocError>
         ensures { IfOk result (λ text. (kept : ARound) × Thins round kept
@@ -134,29 +188,13 @@ fn choose<R: CountedRead>(alloc: Global, reader: &mut R) -> Result<Choice, Strea
     let Ok(mut agent) = Agent::new(alloc, rounds.config(), 1, First) else {
         return Err(StreamFault::NoMemory);
     };
-    let mut records = CallRecords::new(alloc);
-    let mut last = rounds.number();
-    let mut moment = 0;
-    for _ in 0..u64::MAX {
-        let (index, number) = (rounds.index(), rounds.number());
-        let Some(round) = rounds.next_round(reader)? else {
-            break;
-        };
-        let outputs = run(&mut agent, index, &round)?;
-        records.take_round(number, &round, &outputs)?;
-        last = number;
-        moment = round.moment;
-    }
-    records.forget(moment)?;
-    let first = match records.first_round() {
-        Some(first) if first < last => first,
-        _ => last,
+    let mut choice = Choice {
+        records: CallRecords::new(alloc),
+        first: rounds.number(),
+        last: rounds.number(),
     };
-    Ok(Choice {
-        records,
-        first,
-        last,
-    })
+    choice.take_rounds(&mut agent, &mut rounds, reader)?;
+    Ok(choice)
 }
 
 // Runs the round with this index.

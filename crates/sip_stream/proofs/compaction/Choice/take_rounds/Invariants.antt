@@ -1,6 +1,6 @@
--- The loop of `choose`: no read failed.
+-- The loop of `take_rounds`: no read failed.
 use Rattle.sip_files.specs.Counted.{Counts}
-use Rattle.sip_stream.proofs.compaction.choose.Given as goal
+use Rattle.sip_stream.proofs.compaction.Choice.take_rounds.Given as goal
 
 abbrev pub invariant-loop : goal.invariant-loop
 invariant-loop g l =
