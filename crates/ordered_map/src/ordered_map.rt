@@ -72,6 +72,16 @@ impl<K: Eq + Hash + Clone + Drop, V: Drop, S: BuildHasher + Copy + Drop> Ordered
         }
     }
 
+    /// How many entries it has.
+    pub fn len(&self) -> usize
+        ensures { result ≡ length self.now.entries }
+    {
+        match &self.held {
+            Held::Few(map) => map.len(),
+            Held::Many(map) => map.len(),
+        }
+    }
+
     /// Whether a key is in the map.
     pub fn contains_key(&self, key: &K) -> bool
         ensures { result ≡ is_some (lookup (K.eq key.now) self.now.entries) }
@@ -123,6 +133,15 @@ impl<K: Eq + Hash + Clone + Drop, V: Drop, S: BuildHasher + Copy + Drop> Ordered
             }
             Held::Many(map) => put(map, key, value),
         }
+    }
+
+    /// Takes all entries out. Takes no memory.
+    pub fn take(&mut self) -> OrderedMap<K, V, S>
+        ensures value { result.entries ≡ self.old.entries }
+        ensures nothing { self.new.entries ≡ [] }
+    {
+        let (alloc, hasher) = (self.alloc, self.hasher);
+        mem::replace(self, OrderedMap::with_hasher(alloc, hasher))
     }
 
     /// The entries as a list, in time that is linear in their number.
