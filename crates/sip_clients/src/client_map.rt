@@ -223,7 +223,10 @@ impl ClientMap {
             due,
         } = self;
         let Some(client) = all.get_mut(&reply.id) else {
-            return Ok((ClientMap { alloc, all, due }, (Vec::new(alloc), ClientChange::Stays, None)));
+            return Ok((
+                ClientMap { alloc, all, due },
+                (Vec::new(alloc), ClientChange::Stays, None),
+            ));
         };
         let former = client.removal;
         let told = reply_to(alloc, client, dialogs, reply)?;

@@ -191,7 +191,11 @@ pub(crate) fn note_ack(
 }
 
 /// Notes the ACK of a 2xx to this INVITE.
-pub(crate) fn note_ack_in(client: &mut Client, name: DialogId, ack: SentAck) -> Result<(), AllocError>
+pub(crate) fn note_ack_in(
+    client: &mut Client,
+    name: DialogId,
+    ack: SentAck,
+) -> Result<(), AllocError>
     ensures noted { OnOk result (client.new ≡ spec.acked_with name ack client.old) }
     ensures same_removal { client.new.removal ≡ client.old.removal }
 {

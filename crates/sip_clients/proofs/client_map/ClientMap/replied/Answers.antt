@@ -31,10 +31,10 @@ returns-then-is_none-clause-told c = λ client held.
     client c.self.view_is c.in-Some.ensures.value held in (
       c.reply_to.new.client,
       ap (λ (all : Ordered Id Client).
-      set_value (is_id c.args.reply.now.id) all.entries c.reply_to.new.client) c.self.view_is,
+          set_value (is_id c.args.reply.now.id) all.entries c.reply_to.new.client) c.self.view_is,
       c.in_ok-told.ensures.told
-      ∙ ap (λ client. reply_taken (after_response (is_final c.args.reply.now.status) client)
-      c.args.dialogs.now.entries c.args.reply.now) same,
+          ∙ ap (λ client. reply_taken (after_response (is_final c.args.reply.now.status) client)
+          c.args.dialogs.now.entries c.args.reply.now) same,
     )
 
 pub returns-then-is_none-clause-cancel : goal.returns-then-is_none-clause-cancel
@@ -49,10 +49,10 @@ returns-then-eq-clause-told c = λ client held.
     client c.self.view_is c.in-Some.ensures.value held in (
       c.reply_to.new.client,
       ap (λ (all : Ordered Id Client).
-      set_value (is_id c.args.reply.now.id) all.entries c.reply_to.new.client) c.self.view_is,
+          set_value (is_id c.args.reply.now.id) all.entries c.reply_to.new.client) c.self.view_is,
       c.in_ok-told.ensures.told
-      ∙ ap (λ client. reply_taken (after_response (is_final c.args.reply.now.status) client)
-      c.args.dialogs.now.entries c.args.reply.now) same,
+          ∙ ap (λ client. reply_taken (after_response (is_final c.args.reply.now.status) client)
+          c.args.dialogs.now.entries c.args.reply.now) same,
     )
 
 pub returns-then-eq-clause-cancel : goal.returns-then-eq-clause-cancel
@@ -67,11 +67,11 @@ returns-clause-told c = λ client held.
     client c.self.view_is c.in-Some.ensures.value held in (
       c.reply_to.new.client,
       c.in_ok-of_list.ensures ∙ c.in_ok-into_list.ensures
-      ∙ ap (λ (all : Ordered Id Client).
-      set_value (is_id c.args.reply.now.id) all.entries c.reply_to.new.client) c.self.view_is,
+          ∙ ap (λ (all : Ordered Id Client).
+          set_value (is_id c.args.reply.now.id) all.entries c.reply_to.new.client) c.self.view_is,
       c.in_ok-told.ensures.told
-      ∙ ap (λ client. reply_taken (after_response (is_final c.args.reply.now.status) client)
-      c.args.dialogs.now.entries c.args.reply.now) same,
+          ∙ ap (λ client. reply_taken (after_response (is_final c.args.reply.now.status) client)
+          c.args.dialogs.now.entries c.args.reply.now) same,
     )
 
 pub returns-clause-cancel : goal.returns-clause-cancel
