@@ -35,9 +35,14 @@ all_due now due (client ∷ clients) =
     ∙ ap (λ b. is_due now due || b) (over_is_due now client.removal client refl))
     ∙ or_assoc (is_due now due) (is_over now client) (list_any (is_over now) clients)
 
+-- one is over if the first is due
+pub any_over : (now : ℕ) (clients : Clients)
+    → is_due now (next_removal clients) ≡ list_any (is_over now) (values_of clients)
+any_over now clients = all_due now None (values_of clients)
+
 none_over : (now : ℕ) (clients : Clients) → is_due now (next_removal clients) ≡ false
     → list_any (is_over now) (values_of clients) ≡ false
-none_over now clients calm = sym (all_due now None (values_of clients)) ∙ calm
+none_over now clients calm = sym (any_over now clients) ∙ calm
 
 -- ---- lists in which nothing passes
 

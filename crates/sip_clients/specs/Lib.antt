@@ -3,6 +3,7 @@ pub mod Answers
 pub mod Cancel
 pub mod Client
 pub mod ClientLife
+pub mod ClientMap
 pub mod ClientStory
 pub mod ClientTelling
 pub mod ClientRules

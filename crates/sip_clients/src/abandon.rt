@@ -5,9 +5,10 @@ ghost use Rattle.sip_clients.specs.Abandon as spec;
 ghost use Rattle.sip_clients.specs.Client.{Clients};
 
 use crate::client::Client;
+use crate::client_map::ClientMap;
 use crate::commands::name_in;
 use crate::event::Event;
-use crate::held::{ClientMap, fail_request};
+use crate::held::fail_request;
 use sip_held_dialogs::Dialogs;
 use sip_held_dialogs::dialogs::end;
 use sip_message::{Id, Key};
@@ -31,7 +32,7 @@ pub(crate) fn abandon_request(
           clients = clients.old.entries;
         }) }
 {
-    let Some(client) = clients.get(&command.id) else {
+    let Some(client) = clients.get(command.id) else {
         return refused(
             alloc,
             event.id,

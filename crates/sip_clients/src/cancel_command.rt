@@ -2,11 +2,11 @@
 
 ghost use Rattle.std.specs.Prelude.{◌≡◌, IfOk, OnOk};
 ghost use Rattle.sip_clients.specs.Cancel as spec;
-ghost use Rattle.sip_clients.specs.Client.{client_changed};
 
 use crate::client::{Cancelling, Client, RequestKind, client_for};
+use crate::client_map::ClientMap;
 use crate::event::Event;
-use crate::held::{ClientMap, hold};
+use crate::held::hold;
 use crate::outputs::start_command;
 use crate::reply::is_invite_kind;
 use sip_message::{Id, cancel_for};
@@ -74,7 +74,7 @@ pub(crate) fn take_cancel(
     ensures { IfOk result (λ outs. (clients.new.entries, outs.items)
         ≡ spec.cancelled event command.now clients.old.entries) }
 {
-    let Some(invite) = clients.get(&command.id) else {
+    let Some(invite) = clients.get(command.id) else {
         return refused(
             alloc,
             event.id,
@@ -86,12 +86,12 @@ pub(crate) fn take_cancel(
         CancelCase::Refused(refusal) => refused(alloc, event.id, command.call_id.clone()?, refusal),
         CancelCase::Repeated => Ok(Vec::new(alloc)),
         CancelCase::Waits => {
-            ask(clients, command.id, Cancelling::Waits(event.id));
+            clients.ask(command.id, Cancelling::Waits(event.id));
             Ok(Vec::new(alloc))
         }
         CancelCase::Starts => {
             let cancel = made_cancel(alloc, event.id, invite)?;
-            ask(clients, command.id, Cancelling::Sent);
+            clients.ask(command.id, Cancelling::Sent);
             send_beside(alloc, clients, Some(cancel), Vec::new(alloc))
         }
     }
@@ -116,14 +116,6 @@ fn asking_case(provisional: bool, cancel: Cancelling) -> CancelCase
         Cancelling::NotAsked if provisional => CancelCase::Starts,
         Cancelling::NotAsked => CancelCase::Waits,
         Cancelling::Waits(_) | Cancelling::Sent => CancelCase::Repeated,
-    }
-}
-
-fn ask(clients: &mut ClientMap, id: Id, cancel: Cancelling)
-    ensures { clients.new.entries ≡ client_changed id (spec.asked cancel) clients.old.entries }
-{
-    if let Some(invite) = clients.get_mut(&id) {
-        invite.cancel = cancel;
     }
 }
 

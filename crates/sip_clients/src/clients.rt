@@ -11,17 +11,17 @@ ghost use Rattle.sip_clients.specs.Rules.Responses.{response_received};
 use crate::abandon::{abandon_dialog, abandon_request};
 use crate::cancel_command::take_cancel;
 use crate::client::{RequestKind, client_for};
+use crate::client_map::ClientMap;
 use crate::commands::{ack_told, is_bad_outside, name_in, pending_for, prack_told, request_told};
 use crate::event::Event;
-use crate::held::{ClientMap, fail_request, note_ack, settle, start, take_response};
+use crate::held::{fail_request, note_ack, settle, start, take_response};
 use crate::outputs::ClientChange;
 use crate::outside::{invite_of, plain_of};
 use crate::pending::PendingKind;
-use crate::tick::{drop_clients, drop_dialogs, is_any_over, next_due, over_notices};
-use indexmap::IndexMap;
+use crate::tick::{drop_clients, drop_dialogs, over_notices};
 use sip_held_dialogs::{DialogId, Dialogs, PendingRequest};
 use sip_message::{CallId, Id, Message};
-use sip_same::{SameValue, are_same_maps};
+use sip_same::SameValue;
 use sip_user::outputs::refused;
 use sip_user::{
     AbandonDialog, AbandonRequest, CallOut, Cancel, DialogBody, DialogRequest, Invite, Plain,
@@ -29,7 +29,6 @@ use sip_user::{
 };
 use std::alloc::{AllocError, Global};
 use std::marker::Model;
-use std::mem;
 
 /// The held requests that were sent under one Call-ID, in the order in which they were sent. They
 /// change the dialogs of the Call-ID that are handed in (RFC 3261, sections 8.1, 12.2.1, 13.2 and
@@ -58,7 +57,7 @@ impl Clients {
     {
         Clients {
             alloc,
-            requests: IndexMap::new(alloc),
+            requests: ClientMap::new(alloc),
         }
     }
 
@@ -74,7 +73,7 @@ impl Clients {
     pub fn next_due(&self) -> Option<u64>
         ensures { result ≡ ends.client_due self.now }
     {
-        next_due(&self.requests)
+        self.requests.next_due()
     }
 
     // The requests, to be put back once all is done.
@@ -82,7 +81,7 @@ impl Clients {
         ensures requests { result.entries ≡ self.old }
         ensures nothing { self.new ≡ [] }
     {
-        mem::replace(&mut self.requests, IndexMap::new(self.alloc))
+        self.requests.take()
     }
 
     /// The moment `now`, in ms, has come: INVITEs are removed 64*T1 after their first 2xx, and
@@ -95,14 +94,14 @@ impl Clients {
         ensures err { OnErr result (self.new ≡ []) }
     {
         // Most ticks are for the server side: they look at no dialog.
-        if !is_any_over(&self.requests, now) {
+        if !self.requests.is_any_over(now) {
             return Ok(Vec::new(self.alloc));
         }
-        let mut requests = self.take();
+        let mut requests = self.take().into_list()?;
         let outs = over_notices(self.alloc, dialogs, &requests, now)?;
         drop_dialogs(dialogs, &requests, now);
         drop_clients(&mut requests, now);
-        self.requests = requests;
+        self.requests = ClientMap::of_list(self.alloc, requests)?;
         Ok(outs)
     }
 
@@ -312,7 +311,7 @@ impl Clients {
 
 impl SameValue for Clients {
     fn is_same(&self, other: &Clients) -> bool {
-        are_same_maps(&self.requests, &other.requests)
+        self.requests.is_same(&other.requests)
     }
 }
 

@@ -10,21 +10,18 @@ ghost use Rattle.sip_clients.specs.Clients as spec;
 use crate::answers::SentAck;
 use crate::cancel_command::{note_reply, send_beside};
 use crate::client::Client;
+use crate::client_map::ClientMap;
 use crate::dialogs::end_with;
 use crate::event::Event;
 use crate::outputs::{ClientChange, start_command};
 use crate::replied::take_reply;
 use crate::reply::{ReceivedResponse, reply_name, status_of};
-use indexmap::IndexMap;
 use sip_held_dialogs::request::is_final;
 use sip_held_dialogs::{DialogId, Dialogs, PendingRequest};
 use sip_message::{CallId, Id, Message};
 use sip_user::CallOut;
 use sip_user::outputs::one;
 use std::alloc::{AllocError, Global};
-
-/// The held client requests, in the order in which they were sent.
-pub(crate) type ClientMap = IndexMap<Id, Client>;
 
 /// A response to the request that the event of this id sent.
 pub(crate) fn take_response(
@@ -47,7 +44,7 @@ pub(crate) fn take_response(
     let Some(status) = status_of(&response) else {
         return Ok(Vec::new(alloc));
     };
-    let Some(client) = clients.get_mut(&id) else {
+    let Some(client) = clients.get(id) else {
         return Ok(Vec::new(alloc));
     };
     let name = reply_name(alloc, client, &response)?;
@@ -59,14 +56,16 @@ pub(crate) fn take_response(
         status,
         response,
     };
-    let told = reply_to(alloc, client, dialogs, &reply)?;
+    let (replied, told) = clients.take().replied(dialogs, &reply)?;
+    *clients = replied;
     settle_reply(alloc, clients, event, id, told)
 }
 
 /// The outputs of a response, how the requests change, and the CANCEL that waited for it.
-type Told = (Vec<CallOut>, ClientChange, Option<Client>);
+pub(crate) type Told = (Vec<CallOut>, ClientChange, Option<Client>);
 
-fn reply_to(
+/// What a response does to its request.
+pub(crate) fn reply_to(
     alloc: Global,
     client: &mut Client,
     dialogs: &mut Dialogs,
@@ -113,7 +112,7 @@ pub(crate) fn settle(
     match change {
         ClientChange::Stays => Ok(Vec::new(alloc)),
         ClientChange::Over => {
-            let _ = take(clients, id);
+            let _ = take(clients, id)?;
             Ok(Vec::new(alloc))
         }
         ClientChange::Starts(client) => start(alloc, clients, event, client),
@@ -139,16 +138,18 @@ pub(crate) fn start(
 pub(crate) fn hold(clients: &mut ClientMap, id: Id, client: Client) -> Result<(), AllocError>
     ensures { OnOk result (clients.new.entries ≡ with_client id client clients.old.entries) }
 {
-    clients.insert(id, client)?;
+    *clients = clients.take().with(id, client)?;
     Ok(())
 }
 
 // Takes out the request that the event of this id sent.
-fn take(clients: &mut ClientMap, id: Id) -> Option<Client>
-    ensures client { result ≡ client_at id clients.old.entries }
-    ensures left { clients.new.entries ≡ without_client id clients.old.entries }
+fn take(clients: &mut ClientMap, id: Id) -> Result<Option<Client>, AllocError>
+    ensures client { IfOk result (λ client. client ≡ client_at id clients.old.entries) }
+    ensures left { OnOk result (clients.new.entries ≡ without_client id clients.old.entries) }
 {
-    clients.shift_remove(&id)
+    let (left, client) = clients.take().without(id)?;
+    *clients = left;
+    Ok(client)
 }
 
 /// A request is no longer held, and what ends with it ends.
@@ -166,7 +167,7 @@ pub(crate) fn fail_request(
           clients = clients.old.entries;
         }) }
 {
-    match take(clients, id) {
+    match take(clients, id)? {
         Some(client) => end_with(alloc, dialogs, &client, timed_out),
         None => Ok(Vec::new(alloc)),
     }
@@ -184,28 +185,19 @@ pub(crate) fn note_ack(
         clients.old.entries) }
 {
     match (pending, ack) {
-        (PendingRequest::Ack { invite, .. }, Some(ack)) => note_ack_at(clients, invite, name, ack),
+        (PendingRequest::Ack { invite, .. }, Some(ack)) => clients.note_ack(invite, name, ack),
         _ => Ok(()),
     }
 }
 
-fn note_ack_at(
-    clients: &mut ClientMap,
-    invite: Id,
+/// Notes the ACK of a 2xx to this INVITE.
+pub(crate) fn note_ack_in(
+    client: &mut Client,
     name: DialogId,
     ack: SentAck,
 ) -> Result<(), AllocError>
-    ensures { OnOk result (clients.new.entries
-        ≡ client_changed invite (spec.acked_with name ack) clients.old.entries) }
-{
-    let Some(client) = clients.get_mut(&invite) else {
-        return Ok(());
-    };
-    note_ack_in(client, name, ack)
-}
-
-fn note_ack_in(client: &mut Client, name: DialogId, ack: SentAck) -> Result<(), AllocError>
-    ensures { OnOk result (client.new ≡ spec.acked_with name ack client.old) }
+    ensures noted { OnOk result (client.new ≡ spec.acked_with name ack client.old) }
+    ensures same_removal { client.new.removal ≡ client.old.removal }
 {
     client.answers.note(name, Some(ack))
 }

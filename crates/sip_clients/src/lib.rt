@@ -7,6 +7,7 @@ mod answers;
 mod cancel_command;
 mod chacha;
 mod client;
+mod client_map;
 mod clients;
 mod commands;
 mod dialogs;

@@ -6,7 +6,7 @@ ghost use Rattle.std.specs.Map.{values_of};
 ghost use Rattle.sip_clients.specs.Tick as spec;
 
 use crate::client::Client;
-use crate::held::ClientMap;
+use crate::client_map::ClientList;
 use sip_held_dialogs::dialogs::{early_notices, is_early_of};
 use sip_held_dialogs::{Dialogs, HeldDialog};
 use sip_timers::earlier;
@@ -20,22 +20,11 @@ fn is_over(client: &Client, now: u64) -> bool
     client.removal.is_some_and(|moment| moment <= now)
 }
 
-/// Whether some INVITE is due to be removed.
-pub(crate) fn is_any_over(clients: &ClientMap, now: u64) -> bool
-    ensures { result ≡ list_any (spec.is_over now) (values_of clients.now.entries) }
-{
-    clients
-        .values()
-        .as_slice()
-        .iter()
-        .any(|client| is_over(client, now))
-}
-
 /// The notices of the dialogs that end.
 pub(crate) fn over_notices(
     alloc: Global,
     dialogs: &Dialogs,
-    clients: &ClientMap,
+    clients: &ClientList,
     now: u64,
 ) -> Result<Vec<CallOut>, AllocError>
     ensures { IfOk result (λ outs. outs.items
@@ -65,7 +54,7 @@ fn notices_of(
 }
 
 /// Removes the dialogs that are still early when their INVITE is removed.
-pub(crate) fn drop_dialogs(dialogs: &mut Dialogs, clients: &ClientMap, now: u64)
+pub(crate) fn drop_dialogs(dialogs: &mut Dialogs, clients: &ClientList, now: u64)
     ensures { dialogs.new.entries ≡ spec.dialogs_left now dialogs.old.entries clients.now.entries }
 {
     dialogs.retain(
@@ -77,7 +66,7 @@ pub(crate) fn drop_dialogs(dialogs: &mut Dialogs, clients: &ClientMap, now: u64)
     );
 }
 
-fn ends_at(clients: &ClientMap, now: u64, held: &HeldDialog) -> bool
+fn ends_at(clients: &ClientList, now: u64, held: &HeldDialog) -> bool
     ensures { result ≡ spec.ends_early_at now clients.now.entries held.now }
 {
     clients.values().as_slice().iter().any(|client| is_over(client, now)
@@ -85,7 +74,7 @@ fn ends_at(clients: &ClientMap, now: u64, held: &HeldDialog) -> bool
 }
 
 /// Removes the INVITEs that are due.
-pub(crate) fn drop_clients(clients: &mut ClientMap, now: u64)
+pub(crate) fn drop_clients(clients: &mut ClientList, now: u64)
     ensures { clients.new.entries ≡ spec.clients_left now clients.old.entries }
 {
     clients.retain(
@@ -97,7 +86,7 @@ pub(crate) fn drop_clients(clients: &mut ClientMap, now: u64)
 }
 
 /// The first moment, in ms, at which an INVITE is removed, if there is one.
-pub(crate) fn next_due(clients: &ClientMap) -> Option<u64>
+pub(crate) fn next_due(clients: &ClientList) -> Option<u64>
     ensures { result ≡ spec.next_removal clients.now.entries }
 {
     clients

@@ -17,26 +17,27 @@ returns c =
     let response = c.args.response in
     let clients : Clients = c.args.clients.now.entries in
     let side : Side = record { dialogs = c.args.dialogs.now.entries; clients = clients } in
-    let client = c.in-Some-get_mut.client.now in
-    let told = c.in_ok-told.told in
-    let dialogs = c.reply_to.new.dialogs.entries in
+    let client = c.in-Some-get.client.now in
+    let told = c.in_ok-replied.told in
+    let dialogs = c.replied.new.dialogs.entries in
     let status : status_of response.start ≡ Some c.in-Some.status = search rules in
     let found : client_at id clients ≡ Some client = search rules in
     let named : c.in_ok-name.name ≡ reply_name client.kind client response = search rules in
-    let lent : (c.get_mut.follows.lender c.reply_to.new.client).entries
-    ≡ set_value (is_id id) clients c.reply_to.new.client = search rules in
+    let held : client_at id c.take.result.entries ≡ Some client =
+    ap (client_at id) c.take.ensures.requests ∙ found in
+    let done = c.in_ok-replied.ensures.told client held in
+    let cancel = c.in_ok-replied.ensures.cancel client held in
+    let put : c.in_ok-replied.replied.entries ≡ set_value (is_id id) clients done.0 =
+    done.1 ∙ ap (λ held. set_value (is_id id) held done.0) c.take.ensures.requests in
     if_ok c.settle_reply.result _ _ c.settle_reply.ensures (λ outs is.
     let after : ◌≡◌ {A = Clients × List CallOut} (c.settle_reply.new.clients.entries, outs.items)
-    (reply_ended event id told.1 told.2
-    (set_value (is_id id) clients c.reply_to.new.client) told.0.items) =
-    is ∙ ap (λ put. reply_ended event id told.1 told.2 put told.0.items) lent in
+    (reply_ended event id told.1 told.2 (set_value (is_id id) clients done.0) told.0.items) =
+    is ∙ ap (λ put. reply_ended event id told.1 told.2 put told.0.items) put in
     let last : ◌≡◌ {A = ClientTaken}
     (record { dialogs = dialogs; clients = c.settle_reply.new.clients.entries }, outs.items)
-    (side_after event id side told.2
-    (c.reply_to.new.client, dialogs, told.0.items, told.1)) =
+    (side_after event id side told.2 (done.0, dialogs, told.0.items, told.1)) =
     λ i. (record { dialogs = dialogs; clients = (after i).0 }, (after i).1) in
-    last ∙ (λ i. side_after event id side (c.in_ok-told.ensures.cancel i)
-    (c.in_ok-told.ensures.told i))
+    last ∙ (λ i. side_after event id side (cancel i) (done.2 i))
     ∙ (λ i. reply_settled
     (reply_of event id call_id (named i) c.in-Some.status response) client side)
     ∙ (λ i. found_taken event id call_id response (sym status i) (sym found i) side))

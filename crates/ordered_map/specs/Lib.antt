@@ -1,0 +1,2 @@
+pub mod OrderedMap
+pub mod Lends
