@@ -1,7 +1,7 @@
 -- The server of a request other than INVITE: it waits for its final response, and then sends that
 -- again at each retransmission, for 64*T1 (RFC 3261, section 17.2.2).
 use Rattle.std.proofs.Common.{◌≡◌, ◌⊎◌, inl, inr, ⊎_elim, ℕ, ◌+◌, ◌<◌, ◌≤◌, Bool, true, false, cond, ◌&&◌, ◌||◌, List, [], ◌∷◌, ◌++◌, refl, sym, ◌∙◌, ap, subst, arith, codes}
-use Rattle.std.specs.Prelude.{Option, None, Some, count_by, nat_le, not, option_and_then, option_map}
+use Rattle.std.specs.Prelude.{Option, None, Some, count_by, nat_le, not}
 use Rattle.std.specs.List.{AllByRecursion, list_any}
 use Rattle.std.proofs.lemmas.Bool.{false≢true, leb-true}
 use Rattle.std.proofs.lemmas.List.Sums.{sum_by-append, sum_by-cons}
@@ -26,17 +26,14 @@ use Rattle.sip_transactions.specs.declared.state.State.{State}
 use Rattle.sip_transactions.specs.declared.state.State.TheVariants.{Calling, Trying, Proceeding, Completed, Accepted, Confirmed}
 use Rattle.sip_transactions.specs.declared.step.Due.{Due}
 use Rattle.sip_transactions.specs.declared.step.Due.TheVariants.{Clear, Keep}
-use Rattle.sip_transactions.specs.declared.step.Sent.{Sent}
 use Rattle.sip_transactions.specs.declared.step.Sent.TheVariants as send
 use Rattle.sip_transactions.specs.declared.trigger.Class.{Class}
 use Rattle.sip_transactions.specs.declared.trigger.Class.TheVariants as class
 use Rattle.sip_transactions.specs.declared.trigger.Trigger.{Trigger}
 use Rattle.sip_transactions.specs.declared.trigger.Trigger.TheVariants as on
-use Rattle.sip_transactions.specs.Dues.{Dues}
 use Rattle.sip_transactions.specs.ServerLaws.{is_final_answer, is_open}
-use Rattle.sip_transactions.specs.Rows.{row_of, rows_of}
 use Rattle.sip_transactions.specs.Steps.Input.{answer_of, arrival_of, class_of, is_abandon, is_same_method, message_in, role_of, tick_of, trigger_of}
-use Rattle.sip_transactions.specs.Steps.Life.{armed, begun, context_by, last_of, life_after, life_in, state_of, step_for, step_machine, stepped}
+use Rattle.sip_transactions.specs.Steps.Life.{armed, begun, context_by, last_of, life_after, life_in, step_machine, stepped}
 use Rattle.sip_transactions.specs.Steps.Output.{handed_out, made_bytes, made_of, outputs_of}
 use Rattle.sip_conversation.specs.AnswersArrive.{is_final_given, is_receipt}
 use Rattle.sip_conversation.specs.Copies.{copies, is_copy}

@@ -3,7 +3,6 @@ use Rattle.std.proofs.Common.{◌≡◌, ◌⊎◌, inl, inr, ⊎_elim, ℕ, zer
 use Rattle.std.specs.Prelude.{Contains, Option, None, Some, count_by, filter, if◌then◌else◌, nat_le, not}
 use Rattle.std.specs.List.{AllByRecursion, list_any, slice_get}
 use Rattle.std.specs.Option.{option_map_or}
-use Rattle.std.specs.Str.{bytes_eq}
 use Rattle.std.proofs.lemmas.Bool.{false≢true, leb-true}
 use Rattle.std.proofs.lemmas.Grind.{common_steps}
 use Rattle.std.proofs.lemmas.List.Elements.{Contains-append_cases, Contains-append_left, Contains-append_right}
@@ -27,7 +26,7 @@ use Rattle.sip_message.specs.Source.{answer_address, stamped}
 use Rattle.sip_message.specs.TopVia.{is_sent_by_of, top_branch}
 use Rattle.sip_message.specs.Via.{branch_of}
 use Rattle.sip_message.specs.Written.{written}
-use Rattle.keyed_machine.specs.Machine.{Machine, Timed, given_at, outputs_from, state_after, state_from, tick_at}
+use Rattle.keyed_machine.specs.Machine.{Machine, Timed, given_at, outputs_from, state_from, tick_at}
 use Rattle.keyed_machine.proofs.Ordered.{by_bool}
 use Rattle.keyed_machine.proofs.Phases.{state_from-append}
 use Rattle.sip_transactions.specs.declared.input.Command.TheVariants as order
@@ -70,22 +69,22 @@ use Rattle.sip_conversation.specs.Answers.{IsResponseTo}
 use Rattle.sip_conversation.specs.AnswersArrive.{AnswersArrive, IsFinallyAnswered, IsToldBy, answer_time, is_receipt}
 use Rattle.sip_conversation.specs.Conversation.{Carried, Side, Turn, is_side, peer, rounds_of}
 use Rattle.sip_conversation.specs.Copies.{TicksInTime, copies, is_copy, is_invite}
-use Rattle.sip_conversation.specs.Delivery.{Delivers, GoesOn, IsUnderWay, OneIsDelivered, RunInTime, RunsAfter, ShareAClock, copies_sent, is_lost, is_sent, longest_datagram}
+use Rattle.sip_conversation.specs.Delivery.{Delivers, GoesOn, OneIsDelivered, RunInTime, RunsAfter, ShareAClock, copies_sent, is_lost, is_sent, longest_datagram}
 use Rattle.sip_conversation.specs.Messages.{CallSays, CallsKeepRules, ComesUnchanged, IsGiven, IsSaid, come_from}
 use Rattle.sip_conversation.specs.Replies.{AreCounted}
 use Rattle.sip_conversation.specs.Steps.Fair.{IsFair}
-use Rattle.sip_conversation.proofs.Among.{all_go, all_of, among_first, among_later, each_of, first_or_later, none_among}
+use Rattle.sip_conversation.proofs.Among.{all_go, among_first, among_later, each_of, first_or_later, none_among}
 use Rattle.sip_conversation.proofs.AnsweringServer.{ArePlain, IsOpenTo, IsPlain, SendsOnly, answer_step, answered, begins_open, comes, gives_final, keeps_sending}
 use Rattle.sip_conversation.proofs.ComesAt.{reply_given_after, text_given_after}
 use Rattle.sip_conversation.proofs.CopiesSent.{outputs-append, sent_after}
 use Rattle.sip_conversation.proofs.Begun.{IsBegun, begun, begun_call, begun_id}
 use Rattle.sip_conversation.proofs.FirstStart.{AreOthers, IsOther}
-use Rattle.sip_conversation.proofs.Fronts.{counted_front, front_carried, front_keeps, other_side, own_side, peer_rounds}
+use Rattle.sip_conversation.proofs.Fronts.{counted_front, front_carried, front_keeps, other_side, own_side}
 use Rattle.sip_conversation.proofs.GivenAnswers.{asked_so, copies_request, is_it, plain_inputs, sent_by_home, sent_there}
 use Rattle.sip_conversation.proofs.Longer.{rounds_of-append, says_longer}
 use Rattle.sip_conversation.proofs.OftenSent.{begins, one_copy}
 use Rattle.sip_conversation.proofs.OneCallId.{lower, out_replies}
-use Rattle.sip_conversation.proofs.OneOrigin.{IsStartedHere, said_starts, same_start, start_of}
+use Rattle.sip_conversation.proofs.OneOrigin.{IsStartedHere, said_starts, same_start}
 use Rattle.sip_conversation.proofs.RequestsAsked.{out_own}
 use Rattle.sip_conversation.proofs.RequestsGoOut.{asked_given}
 use Rattle.sip_conversation.proofs.RoundInputs.{BeginsWithTick, begins_with_tick, inputs-append, inputs_after, inputs_after_at, inputs_at}
@@ -203,16 +202,6 @@ comes_early moment front rest late turn among by =
     ⊎_elim (λ early. early)
     (λ after. let over : moment < (turn.round).moment = each_of (IsLater moment) rest turn late after
     in absurd (omega (arith, over, by)))
-    (Contains-append_cases front rest turn among)
-
-comes_late : (moment : ℕ) (front rest : List Turn) → AllByRecursion (IsBy moment) front
-    → (turn : Turn) → Contains (front ++ rest) turn → moment < (turn.round).moment
-    → Contains rest turn
-comes_late moment front rest early turn among after =
-    ⊎_elim
-    (λ before. let by : (turn.round).moment ≤ moment =
-    each_of (IsBy moment) front turn early before in absurd (omega (arith, by, after)))
-    (λ late. late)
     (Contains-append_cases front rest turn among)
 
 -- ---- the server of a request
@@ -1226,7 +1215,6 @@ module _ (configs : Side → Config) (fair : IsFair configs) (turns : List Turn)
       turns_after : List Turn
       split : later ≡ turns_by ++ turns_after
       all_by : AllByRecursion (IsBy (by_stage i)) turns_by
-      all_after : AllByRecursion (IsLater (by_stage i)) turns_after
       enough : i ≤ count_by comes (came_again turns_by)
 
     module _ (calm : (t : Timed Input) → Contains way.after t → t.moment ≤ last
@@ -1450,7 +1438,6 @@ module _ (configs : Side → Config) (fair : IsFair configs) (turns : List Turn)
               (longer_by (turn.round).moment (by_stage i) repeats_take by)))
               turns_by all_by)
               next_parts.early;
-          all_after = next_parts.late;
           enough =
               let first = rounds_of other first_turns in
               let same : came_again (turns_by ++ next_parts.front)
@@ -1474,7 +1461,6 @@ module _ (configs : Side → Config) (fair : IsFair configs) (turns : List Turn)
             turns_after = start_parts.rest;
             split = start_parts.are;
             all_by = start_parts.early;
-            all_after = start_parts.late;
             enough = omega arith;
           }
       stages (suc i) by =
@@ -1485,7 +1471,6 @@ module _ (configs : Side → Config) (fair : IsFair configs) (turns : List Turn)
 
       module _ (turns_by turns_after : List Turn) (split : later ≡ turns_by ++ turns_after)
           (all_by : AllByRecursion (IsBy (by_stage more)) turns_by)
-          (all_after : AllByRecursion (IsLater (by_stage more)) turns_after)
           (enough : more ≤ count_by comes (came_again turns_by)) where
         abbrev answering : List Turn
         answering = turn ∷ turns_by
@@ -1709,7 +1694,7 @@ module _ (configs : Side → Config) (fair : IsFair configs) (turns : List Turn)
       never : ⊥
       never =
           let stage = stages more (no_less_than more) in
-          final_came stage.turns_by stage.turns_after stage.split stage.all_by stage.all_after
+          final_came stage.turns_by stage.turns_after stage.split stage.all_by
           stage.enough
 
     calm_so : (turns_then turns_left : List Turn) (parts : later ≡ turns_then ++ turns_left)

@@ -28,7 +28,7 @@ use Rattle.sip_round.specs.declared.round.Event.{Event}
 use Rattle.sip_round.specs.declared.round.Event.TheVariants.{Datagram}
 use Rattle.sip_round.specs.declared.round.Round.{Round}
 use Rattle.sip_round.specs.Answers.{Past, arrivals, first, no_past, past_after, past_from, past_of, third}
-use Rattle.sip_round.specs.Arrivals.{Arrival, arrival_for, arrival_of, arrivals_from, datagram_arrival, message_arrival}
+use Rattle.sip_round.specs.Arrivals.{arrival_for, arrival_of, arrivals_from, datagram_arrival, message_arrival}
 use Rattle.sip_round.specs.Arrivals as arrival
 use Rattle.sip_round.specs.Phases.{transaction_item, transaction_items}
 use Rattle.sip_conversation.specs.Messages.{IsGiven, come_from}

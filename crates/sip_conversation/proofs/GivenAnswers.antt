@@ -1,9 +1,9 @@
 -- What the transaction of a request at the other side is given, and what it sends: an answer to it
 -- copies the request, and goes back to where that came from; and a final response that comes to the
 -- request's own transaction was sent by that one.
-use Rattle.std.proofs.Common.{◌≡◌, ⊎_elim, ℕ, ◌+◌, ◌≤◌, Bool, true, false, cond, ◌&&◌, ◌==◌, List, [], ◌∷◌, length, refl, sym, ap, ◌∙◌, subst, codes, arith}
+use Rattle.std.proofs.Common.{◌≡◌, ⊎_elim, ℕ, ◌≤◌, Bool, true, false, ◌&&◌, ◌==◌, List, [], ◌∷◌, length, refl, sym, ap, ◌∙◌, subst, codes, arith}
 use Rattle.std.specs.Prelude.{Contains, Option, None, Some, if◌then◌else◌, not}
-use Rattle.std.specs.List.{AllByRecursion, flat_map, slice_get}
+use Rattle.std.specs.List.{AllByRecursion, slice_get}
 use Rattle.std.specs.Option.{option_map_or}
 use Rattle.std.specs.Str.{bytes_eq}
 use Rattle.std.proofs.lemmas.Bool.{false≢true}
@@ -71,7 +71,7 @@ use Rattle.sip_conversation.proofs.Rounds.{ArrivalFits, OutFits, RoundFits, Time
 use Rattle.sip_conversation.proofs.SameRequest.{as_this, same_branch, same_original}
 use Rattle.sip_conversation.proofs.Sends.{direct_sends_fit}
 use Rattle.sip_conversation.proofs.StartedFor.{has_key, response_key}
-use Rattle.sip_conversation.proofs.ToldCallId.{IsSame, came_same, peer_peer}
+use Rattle.sip_conversation.proofs.ToldCallId.{peer_peer}
 use Rattle.sip_conversation.proofs.Unchanged.{messages_back, messages_unchanged, what_is_said}
 use Rattle.sip_conversation.proofs.Unstamped.{no_status, same_response}
 use Rattle.sip_conversation.proofs.UpMethods.{HasMethod}

@@ -1,6 +1,6 @@
 -- A client of a request other than INVITE sends the request again at least each T2, until a final
 -- response comes (RFC 3261, section 17.1.2.2).
-use Rattle.std.proofs.Common.{◌≡◌, ◌⊎◌, inl, inr, ⊎_elim, ℕ, suc, ◌+◌, ◌*◌, ◌<◌, ◌≤◌, Bool, true, false, cond, ◌&&◌, ◌||◌, ◌==◌, List, [], ◌∷◌, ◌++◌, refl, sym, ◌∙◌, ap, subst, arith, codes}
+use Rattle.std.proofs.Common.{◌≡◌, ◌⊎◌, inl, inr, ⊎_elim, ℕ, suc, ◌+◌, ◌*◌, ◌<◌, ◌≤◌, Bool, true, false, cond, ◌||◌, ◌==◌, List, [], ◌∷◌, ◌++◌, refl, sym, ◌∙◌, ap, subst, arith, codes}
 use Rattle.std.specs.Prelude.{Contains, Option, None, Some, nat_le, nat_lt, min, option_and_then}
 use Rattle.std.specs.List.{AllByRecursion, list_any}
 use Rattle.std.proofs.lemmas.Bool.{false≢true}
@@ -13,7 +13,6 @@ use Rattle.sip_message.specs.declared.key.Key.{Key}
 use Rattle.sip_message.specs.declared.message.Message.{Message}
 use Rattle.sip_message.specs.declared.start_line.StartLine.{StartLine}
 use Rattle.sip_message.specs.declared.start_line.StartLine.TheVariants as start
-use Rattle.sip_message.specs.Written.{written}
 use Rattle.keyed_machine.specs.Machine.{Timed, given_at, outputs_from, state_from, tick_at}
 use Rattle.keyed_machine.proofs.Ordered.{by_bool}
 use Rattle.sip_transactions.specs.declared.input.Input.{Input}
@@ -38,7 +37,7 @@ use Rattle.sip_transactions.specs.Steps.Output.{handed_out, kind_of, made_of, ou
 use Rattle.sip_transactions.proofs.RowFacts.{by_test}
 use Rattle.sip_agent_laws.specs.Transactions.Outcomes.{is_final}
 use Rattle.sip_conversation.specs.Copies.{TicksInTime, copies, is_copy}
-use Rattle.sip_conversation.proofs.Among.{among_first, among_later, first_or_later, none_among}
+use Rattle.sip_conversation.proofs.Among.{first_or_later, none_among}
 use Rattle.sip_conversation.proofs.OftenSent.{by_role, by_row, one_copy, or_false, to_role}
 use Rattle.sip_conversation.proofs.FirstStart.{AreOthers, IsOther, stays}
 

@@ -2,7 +2,6 @@
 -- delivers one of several copies of a datagram, between agents that run in time.
 use Rattle.std.specs.Prelude.{◌≡◌, ℕ, suc, ◌+◌, ◌*◌, ◌<◌, ◌≤◌, Bool, true, false, not, ◌&&◌, List, [], ◌∷◌, ◌++◌, Contains, Option, None, Some, codes, length}
 use Rattle.std.specs.List.{AllByRecursion, list_any}
-use Rattle.sip_message.specs.declared.addr.Addr.{Addr}
 use Rattle.sip_message.specs.declared.id.Id.{Id}
 use Rattle.sip_message.specs.declared.key.Key.{Key}
 use Rattle.sip_message.specs.declared.key.Key.TheVariants as key

@@ -40,7 +40,6 @@ use Rattle.sip_held_dialogs.proofs.Starts.{starts}
 use Rattle.sip_calls.proofs.CallStarts.{how_many, ids_of}
 use Rattle.sip_calls.proofs.OwnCall.{each_notice_is_own}
 use Rattle.sip_round.specs.declared.config.Config.{Config}
-use Rattle.sip_round.specs.declared.output.Output.{Output}
 use Rattle.sip_round.specs.declared.output.Output.TheVariants as output
 use Rattle.sip_round.specs.declared.round.Round.{Round}
 use Rattle.sip_round.specs.Answers.{Past, answer, arrivals, calls_of, each_from, first, given_second, items_of_round, past_after, past_from, said_by_transactions, third}

@@ -8,7 +8,6 @@ use Rattle.std.specs.Option.{option_map_or}
 use Rattle.std.proofs.lemmas.Bool.{false≢true}
 use Rattle.std.proofs.lemmas.Cmp.{nat_list_cmp_total}
 use Rattle.std.proofs.lemmas.List.Sums.{sum_by-cons}
-use Rattle.std.proofs.lemmas.Map.Lookups.{exact_bytes}
 use Rattle.sip_message.specs.Party.{tag_of}
 use Rattle.sip_message.specs.declared.id.Id.{Id}
 use Rattle.sip_message.specs.declared.key.Key.{Key}
@@ -17,7 +16,7 @@ use Rattle.sip_message.specs.declared.start_line.StartLine.{StartLine}
 use Rattle.sip_message.specs.declared.start_line.StartLine.TheVariants as start_line
 use Rattle.keyed_machine.specs.declared.item.Item.{Item}
 use Rattle.keyed_machine.specs.Machine.{Timed}
-use Rattle.keyed_machine.proofs.Ordered.{by_bool, exact_at, is_at_itself}
+use Rattle.keyed_machine.proofs.Ordered.{by_bool, is_at_itself}
 use Rattle.sip_transactions.specs.declared.output.Up.{Up as AnUp}
 use Rattle.sip_transactions.specs.declared.output.UpKind.{UpKind}
 use Rattle.sip_transactions.specs.declared.output.UpKind.TheVariants as kind

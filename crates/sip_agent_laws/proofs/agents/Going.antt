@@ -57,7 +57,7 @@ use Rattle.sip_agent_laws.proofs.agents.FirstPhase.{AreArrivals, IsArrival, Item
 use Rattle.sip_agent_laws.proofs.agents.Lists.{Among, among_either, among_left, among_right, both, each_of}
 use Rattle.sip_agent_laws.proofs.agents.OpenLives.{is_server, lives_on}
 use Rattle.sip_agent_laws.proofs.transactions.Ends.{Asks, HasAsked, first_asks, is_invite_client, is_plain_client, lack, lacks, is_not, next_asks, pends, rest_enough, tick_asked}
-use Rattle.sip_agent_laws.proofs.transactions.Inputs.{By, HeldIn, begins, by_each, by_input, first_in, next_in, passes, rule}
+use Rattle.sip_agent_laws.proofs.transactions.Inputs.{HeldIn, begins, by_each, by_input, first_in, next_in, passes, rule}
 use Rattle.sip_agent_laws.proofs.transactions.Timed.{IsTimed, entered_passes, enters, implied, starts, stays}
 use Rattle.sip_agent_laws.proofs.transactions.Told.{finals, outcomes_count, score, tells as row_tells, ups-row}
 

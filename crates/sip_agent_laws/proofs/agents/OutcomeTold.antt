@@ -20,7 +20,6 @@ use Rattle.sip_transactions.specs.declared.life.Life.{Life}
 use Rattle.sip_transactions.specs.declared.output.UpKind.{UpKind}
 use Rattle.sip_transactions.specs.declared.output.UpKind.TheVariants as kind
 use Rattle.sip_transactions.specs.declared.state.Role.TheVariants as role
-use Rattle.sip_transactions.specs.Machine.{transaction_machine}
 use Rattle.sip_transactions.specs.Steps.Input.{is_abandon, role_of}
 use Rattle.sip_transactions.proofs.Rules.{at_steps}
 use Rattle.sip_user.specs.Command.{call_of_item}
@@ -39,7 +38,6 @@ use Rattle.sip_round.specs.Given.{all_given}
 use Rattle.sip_round.specs.Laws.{inputs_of}
 use Rattle.sip_round.specs.Phases.{call_items}
 use Rattle.sip_agent_laws.specs.Agents.AtRest.{reaches}
-use Rattle.sip_agent_laws.specs.Agents.Open.{is_open}
 use Rattle.sip_agent_laws.specs.Agents.Outcomes.{Causes, EachRequestHasOneOutcome, OutcomeIsTold, Sends, Tells, is_given_up, is_outcome_of, outcomes_told, tells_outcome}
 use Rattle.sip_agent_laws.specs.Transactions.Outcomes.{is_final as is_final_line, is_outcome}
 use Rattle.sip_agent_laws.proofs.agents.Apart.{starts_from}
@@ -49,7 +47,7 @@ use Rattle.sip_agent_laws.proofs.agents.EachOutcome as round_of
 use Rattle.sip_agent_laws.proofs.agents.EndTold.{one_counted}
 use Rattle.sip_agent_laws.proofs.agents.Going.{GoesOn, IsGoing, IsNew, going_new, new_run, none_at, none_then}
 use Rattle.sip_agent_laws.proofs.agents.Items.{requests_among}
-use Rattle.sip_agent_laws.proofs.agents.Linked.{IsLinked, after_is, first_items, given, items, lives_between, lives_in, lives_ticked, no_events, second_items}
+use Rattle.sip_agent_laws.proofs.agents.Linked.{IsLinked, after_is, first_items, given, items, lives_between, lives_in, lives_ticked, no_events}
 use Rattle.sip_agent_laws.proofs.agents.LinkedRounds.{IsFair, all_fair, fair_next, linked_next, nothing_linked}
 use Rattle.sip_agent_laws.proofs.agents.Lists.{Among, among_left, among_right}
 use Rattle.sip_agent_laws.proofs.agents.OneOutcome.{at_most_one_is_told, brings, brought, brought_once}
