@@ -18,6 +18,7 @@ pub mod OneUp
 pub mod EndTold
 pub mod EachOutcome
 pub mod OneOutcome
+pub mod OutcomeTold
 pub mod Idle
 pub mod RestFrom
 pub mod NothingLeft

@@ -3,7 +3,7 @@
 ghost use Rattle.sip_agent_laws.specs.Agents.AtRest.{EachAgentComesToRest, EachCallComesToRest};
 ghost use Rattle.sip_agent_laws.specs.Agents.NothingLeft.{NoTransactionStays, NothingStays};
 ghost use Rattle.sip_agent_laws.specs.Agents.Open.{EachOpenIsHeld};
-ghost use Rattle.sip_agent_laws.specs.Agents.Outcomes.{AtMostOneIsTold, EachRequestHasOneOutcome};
+ghost use Rattle.sip_agent_laws.specs.Agents.Outcomes.{AtMostOneIsTold, EachRequestHasOneOutcome, OutcomeIsTold};
 ghost use Rattle.sip_agent_laws.specs.Agents.UserEnds.{UserEndsAgent, UserEndsTransactions};
 
 /// After any rounds, each server transaction, and each client of an INVITE, that has no final
@@ -47,8 +47,11 @@ pub fn the_user_ends_all()
 /// Of a request other than INVITE that the agent sends, the application is told of at most one
 /// outcome under the request's id: a final response, a timeout, or that it couldn't be sent. It is
 /// told of one by the first round 64*T1 later, unless it gives the request up (RFC 3261, sections
-/// 8.1.3.1 and 17.1.2.2).
+/// 8.1.3.1 and 17.1.2.2). Once the request doesn't wait any longer, it was told which: a final
+/// response that came, with its status, tags and body; that none came by a tick 64*T1 later; or a
+/// failed send that was reported. CANCEL and PRACK, which have commands of their own, are left out.
 pub fn each_request_has_one_outcome()
     ensures most { AtMostOneIsTold }
     ensures one { EachRequestHasOneOutcome }
+    ensures told { OutcomeIsTold }
 {}

@@ -147,7 +147,7 @@ module _ (calls : Calls) (call_id : List ℕ) (all : List (Timed CallItem)) (Cam
       pub is_request : is_request_message ack ≡ true
       pub method : ack.cseq.method ≡ codes "ACK"
       pub call_id_is : ack.call_id ≡ call_id
-      pub branch : HasBranch calls.seed call_id Came AnyCancel (top_branch ack)
+      pub branch : HasBranch calls.local calls.seed call_id Came AnyCancel (top_branch ack)
       pub heard : WasHeard Is2xx calls all (dialog_id_of_tags (tag_of ack.from) (tag_of ack.to))
           ack.cseq.number
 

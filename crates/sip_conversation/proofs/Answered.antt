@@ -52,8 +52,8 @@ use Rattle.sip_conversation.proofs.AckTexts.{no_ack}
 use Rattle.sip_conversation.proofs.Along.{along, among_after, given_after}
 use Rattle.sip_conversation.proofs.Among.{all_of, each_of}
 use Rattle.sip_conversation.proofs.Bridge.{any_arrival}
-use Rattle.sip_conversation.proofs.CallSays.{AnyAck, AnyCall, InputGives, UserGives, all_say}
-use Rattle.sip_clients.proofs.ClientAsks.{IsAsk, OutSays}
+use Rattle.sip_conversation.proofs.CallSays.{AnyAck, AnyCall, InputGives, OutGives, UserGives, all_say}
+use Rattle.sip_clients.proofs.ClientAsks.{IsAsk}
 use Rattle.sip_conversation.proofs.OneTransaction.{KindCame}
 use Rattle.sip_conversation.proofs.Origins.{TimedComes, inputs_come}
 use Rattle.sip_conversation.proofs.PracksCame.{arrived, was_sent}
@@ -116,6 +116,15 @@ module _ (config : Config) (rounds : List Round) (Came : Message → Type 0) whe
   Answers message = (status : ℕ) → status_of message.start ≡ Some status
       → IsAnswer message status
 
+  -- it is an answer to a request that came up so, under this id and from this transaction
+  pub record IsAnswerOf (id : Id) (key : Key) (message : Message) : Type 0 where
+    pub call_id : List ℕ
+    pub arrival : Arrival
+    pub came : CameTo call_id arrival
+    pub id_is : arrival.id ≡ id
+    pub key_is : arrival.key ≡ key
+    pub answers : AnswersTo arrival message
+
   to_one : (id : Id) (request message : Message) (status : ℕ)
       → IsAnswerTo id request message status → IsAnswer message status
   to_one id request message status answer = record {
@@ -128,10 +137,10 @@ module _ (config : Config) (rounds : List Round) (Came : Message → Type 0) whe
     answered = answer.answered;
   }
 
-  any_answer : (arrival : Arrival) (message : Message) → AnswersTo arrival message
+  any_answer : (id : Id) (key : Key) (message : Message) → IsAnswerOf id key message
       → Answers message
-  any_answer arrival message answers status is =
-      to_one arrival.id arrival.request message status (answers status is)
+  any_answer id key message of status is =
+      to_one of.arrival.id of.arrival.request message status (of.answers status is)
 
   abbrev itself : (request response : Message) (status other : ℕ) → Some status ≡ Some other
       → AnswersItself config rounds request status → response.body ≡ []
@@ -178,6 +187,21 @@ module _ (config : Config) (rounds : List Round) (Came : Message → Type 0) whe
               ∙ cancels.branch_is;
         }
 
+    -- the same, of a request that came up to this call
+    abbrev AnswersIn : Arrival → Message → Type 0
+    AnswersIn arrival message = Brought arrival × AnswersTo arrival message
+
+    answer_of : (arrival : Arrival) (message : Message) → AnswersIn arrival message
+        → IsAnswerOf arrival.id arrival.key message
+    answer_of arrival message answers = record {
+      call_id = call_id;
+      arrival = arrival;
+      came = answers.0;
+      id_is = refl;
+      key_is = refl;
+      answers = answers.1;
+    }
+
     pub own : OwnReplies Brought AnswersTo
     own = record {
       merged = λ arrival came bare.
@@ -204,6 +228,16 @@ module _ (config : Config) (rounds : List Round) (Came : Message → Type 0) whe
       terminated = λ invite cancel came cancels. own_reply 487 (codes "Request Terminated") invite
           invite.tag came
           (Terminates refl cancels.is_invite (cancelled invite cancel came cancels));
+    }
+
+    own_in : OwnReplies Brought AnswersIn
+    own_in = record {
+      merged = λ arrival came bare. (came, own.merged arrival came bare);
+      extension = λ arrival came unknown. (came, own.extension arrival came unknown);
+      no_dialog = λ arrival came is. (came, own.no_dialog arrival came is);
+      out_of_order = λ arrival came tagged. (came, own.out_of_order arrival came tagged);
+      accepted = λ arrival tag came is. (came, own.accepted arrival tag came is);
+      terminated = λ invite cancel came cancels. (came, own.terminated invite cancel came cancels);
     }
 
     pub user_answers : (front : List (Timed CallItem)) (now : ℕ) (event : Id)
@@ -252,13 +286,13 @@ module _ (config : Config) (rounds : List Round) (Came : Message → Type 0) whe
         (command : UserCommand) (rest : List (Timed CallItem))
         → call_inputs_of config rounds call_id
         ≡ front ++ given_at now (event, User command) ∷ rest
-        → UserGives Brought AnswersTo Answers any_answer own
+        → UserGives Brought AnswersIn IsAnswerOf answer_of own_in
         (given_after (calls_of config) front (given_at now (event, User command))) command
     command_gives front now event (user.Invite invite) rest are = tt
     command_gives front now event (user.Plain plain) rest are = tt
     command_gives front now event (user.Request request) rest are = tt
-    command_gives front now event (user.Respond respond) rest are =
-        user_answers front now event respond rest are
+    command_gives front now event (user.Respond respond) rest are = λ local held came named sent.
+        (came, user_answers front now event respond rest are local held came named sent)
     command_gives front now event (user.Ack ack) rest are = tt
     command_gives front now event (user.Prack prack) rest are = tt
     command_gives front now event (user.Cancel cancel) rest are = tt
@@ -302,7 +336,7 @@ module _ (config : Config) (rounds : List Round) (Came : Message → Type 0) whe
         → call_inputs_of config rounds call_id
         ≡ front ++ record { moment = now; input = i } ∷ rest
         → IfSome i (λ i. ItemCame (UpCame Came) i.1) → IsInputOf call_id i
-        → InputGives Brought AnswersTo Answers any_answer own (calls_of config)
+        → InputGives Brought AnswersIn IsAnswerOf answer_of own_in (calls_of config)
         (given_after (calls_of config) front (record { moment = now; input = i })) i
     input_gives front now None rest are came its = tt
     input_gives front now (Some (event, Up up)) rest are came its =
@@ -322,17 +356,17 @@ module _ (config : Config) (rounds : List Round) (Came : Message → Type 0) whe
       (came : AllCame) where
     -- ---- what an agent says
 
-    out_says : (out : CallOut) → CallSays config rounds out → OutSays Answers out
+    pub out_says : (out : CallOut) → CallSays config rounds out → OutGives IsAnswerOf out
     out_says out said =
         let call_id = said.0 in
         let inputs = call_inputs_of config rounds call_id in
-        each_of (OutSays Answers) (said_of_call config rounds call_id) out
-        (subst (AllByRecursion (OutSays Answers))
+        each_of (OutGives IsAnswerOf) (said_of_call config rounds call_id) out
+        (subst (AllByRecursion (OutGives IsAnswerOf))
         (sym (call_alone (calls_of config) alone [] (past_of config rounds).calls call_id))
-        (all_say (CameTo call_id) AnswersTo Answers any_answer (own call_id) (calls_of config)
-        call_id None inputs
-        (along (InputGives (CameTo call_id) AnswersTo Answers any_answer (own call_id)
-        (calls_of config)) (calls_of config) inputs
+        (all_say (CameTo call_id) (AnswersIn call_id) IsAnswerOf (answer_of call_id)
+        (own_in call_id) (calls_of config) call_id None inputs
+        (along (InputGives (CameTo call_id) (AnswersIn call_id) IsAnswerOf (answer_of call_id)
+        (own_in call_id) (calls_of config)) (calls_of config) inputs
         (λ front timed rest are.
         let among = among_after front timed rest are in
         input_gives call_id front timed.moment timed.input rest are
@@ -348,7 +382,7 @@ module _ (config : Config) (rounds : List Round) (Came : Message → Type 0) whe
     StartAsks key (input.Failed id) = Unit {0}
     StartAsks key input.Abandon = Unit {0}
 
-    out_fits : (out : CallOut) → OutSays Answers out → OutFits config StartAsks out
+    out_fits : (out : CallOut) → OutGives IsAnswerOf out → OutFits config StartAsks out
     out_fits (call_out.Notice notice) says = tt
     out_fits (call_out.Command id (order.Start key call_id message to)) says = says
     out_fits (call_out.Command id (order.Answer key message)) says = tt
@@ -374,8 +408,8 @@ module _ (config : Config) (rounds : List Round) (Came : Message → Type 0) whe
         absurd (no_status response.start status (ap is_request_message (sym same)
         ∙ out_says (call_out.Command id (order.Start key call_id message to)) says) is)
     answered response (Asked id (order.Answer key message) says same) status is =
-        subst Answers same (out_says (call_out.Command id (order.Answer key message)) says) status
-        is
+        subst Answers same (any_answer id key message
+        (out_says (call_out.Command id (order.Answer key message)) says)) status is
     answered response (Asked id (order.Abandon key) says same) status is = absurd same
     answered response (Direct to says) status is =
         let text = out_says (call_out.Direct to (written response)) says in

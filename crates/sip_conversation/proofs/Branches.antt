@@ -10,7 +10,7 @@ use Rattle.std.proofs.lemmas.Slice.Eq.{bytes_eq-Decides}
 use Rattle.sip_message.specs.Content.{Content, with_content_of}
 use Rattle.sip_message.specs.Key.{client_key}
 use Rattle.sip_message.specs.Party.{tag_of}
-use Rattle.sip_message.specs.TopVia.{top_branch}
+use Rattle.sip_message.specs.TopVia.{top_branch, top_via}
 use Rattle.sip_message.specs.Via.{branch_of as branch_in}
 use Rattle.sip_message.specs.declared.addr.Addr.{Addr}
 use Rattle.sip_message.specs.declared.id.Id.{Id}
@@ -114,27 +114,34 @@ command_none method none same = false≢true (sym none ∙ ap has_command same)
 
 record IsLike (one other : Message) : Type 0 where
   pub to : one.to ≡ other.to
-  pub branch : top_branch one ≡ top_branch other
+  pub via : top_via one ≡ top_via other
   pub call : one.call_id ≡ other.call_id
   pub method : one.cseq.method ≡ other.cseq.method
 
 like_content : (message : Message) (content : Content)
     → IsLike (with_content_of message content) message
 unfolding with_content_of
-like_content message content = record { to = refl; branch = refl; call = refl; method = refl }
+like_content message content = record { to = refl; via = refl; call = refl; method = refl }
 
 like_support : (asked_for : ProvisionalSupport) (message : Message)
     → IsLike (with_100rel asked_for message) message
-like_support support.None message = record { to = refl; branch = refl; call = refl; method = refl }
+like_support support.None message = record { to = refl; via = refl; call = refl; method = refl }
 like_support support.Supported message =
-    record { to = refl; branch = refl; call = refl; method = refl }
+    record { to = refl; via = refl; call = refl; method = refl }
 like_support support.Required message =
-    record { to = refl; branch = refl; call = refl; method = refl }
+    record { to = refl; via = refl; call = refl; method = refl }
 
 like_untagged : {one other : Message} → IsLike one other → has_to_tag other ≡ false
     → has_to_tag one ≡ false
 like_untagged like untagged =
     ap (λ (to : Party). not (length (tag_of to) == 0)) like.to ∙ untagged
+
+like_branch : {one other : Message} → IsLike one other → top_branch one ≡ top_branch other
+like_branch like = ap (λ o. option_map_or branch_in o []) like.via
+
+pub via_alone : (vias : List Via) → slice_get (take 1 vias) 0 ≡ slice_get vias 0
+via_alone [] = refl
+via_alone (via ∷ vias) = refl
 
 pub top_alone : (vias : List Via)
     → option_map_or branch_in (slice_get (take 1 vias) 0) []
@@ -150,15 +157,21 @@ pub agent_branch : (local : Addr) (branch : List ℕ) → branch_in (agent_via l
 unfolding value_named
 agent_branch local branch = refl
 
-module _ (seed call_id : List ℕ) (Came : Id → Type 0) (Cancels : Id → Message → Type 0) where
+module _ (home : Addr) (seed call_id : List ℕ) (Came : Id → Type 0)
+    (Cancels : Id → Message → Type 0) where
   -- an event of the call
   pub record Comes (event : Event) : Type 0 where
+    pub home_is : event.local ≡ home
     pub seed_is : event.seed ≡ seed
     pub came : Came event.id
 
   -- the branch is one that an event of the call made
   abbrev pub HasBranch : List ℕ → Type 0
   HasBranch branch = (id : Id) × Came id × (branch ≡ codes "z9hG4bK" ++ name_of seed id 0)
+
+  -- its top Via is one that the agent makes: its address, and `rport`
+  abbrev pub IsHomeVia : Message → Type 0
+  IsHomeVia message = (branch : List ℕ) × (top_via message ≡ Some (agent_via home branch))
 
   -- it is the CANCEL of a request for which the event of this id asked
   pub record IsCancelOf (id : Id) (message : Message) : Type 0 where
@@ -171,6 +184,7 @@ module _ (seed call_id : List ℕ) (Came : Id → Type 0) (Cancels : Id → Mess
   pub record IsOwn (id : Id) (message : Message) : Type 0 where
     pub call : message.call_id ≡ call_id
     pub branch : HasBranch (top_branch message)
+    pub via : IsHomeVia message
     pub method : message.cseq.method ≡ codes "ACK" → ⊥
     pub event_is : (message.cseq.method ≡ codes "CANCEL" → ⊥) → branch.0 ≡ id
     pub cancels : message.cseq.method ≡ codes "CANCEL" → IsCancelOf id message
@@ -256,7 +270,8 @@ module _ (seed call_id : List ℕ) (Came : Id → Type 0) (Cancels : Id → Mess
       → (other.cseq.method ≡ codes "CANCEL" → ⊥) → IsOwn id one
   like_own id one other like own none = record {
     call = like.call ∙ own.call;
-    branch = (own.branch.0, own.branch.1, like.branch ∙ own.branch.2);
+    branch = (own.branch.0, own.branch.1, like_branch like ∙ own.branch.2);
+    via = (own.via.0, like.via ∙ own.via.1);
     method = λ is. own.method (sym like.method ∙ is);
     event_is = λ other. own.event_is (λ is. other (like.method ∙ is));
     cancels = λ is. absurd (none (sym like.method ∙ is));
@@ -273,6 +288,7 @@ module _ (seed call_id : List ℕ) (Came : Id → Type 0) (Cancels : Id → Mess
       comes.came,
       agent_branch event.local (branch_of event) ∙ own_branch event comes,
     );
+    via = (branch_of event, ap (λ at. Some (agent_via at (branch_of event))) comes.home_is);
     method = other;
     event_is = λ other. refl;
     cancels = λ cancel. absurd (none cancel);
@@ -295,8 +311,9 @@ module _ (seed call_id : List ℕ) (Came : Id → Type 0) (Cancels : Id → Mess
           branch = (
             outside.branch.0,
             outside.branch.1,
-            content.branch ∙ (support.branch ∙ outside.branch.2),
+            like_branch content ∙ (like_branch support ∙ outside.branch.2),
           );
+          via = (outside.via.0, content.via ∙ (support.via ∙ outside.via.1));
           method = λ ack. outside.method (sym support.method ∙ (sym content.method ∙ ack));
           event_is = λ other. outside.event_is
               (λ is. other (content.method ∙ (support.method ∙ is)));
@@ -337,6 +354,7 @@ module _ (seed call_id : List ℕ) (Came : Id → Type 0) (Cancels : Id → Mess
         own = record {
           call = own.call;
           branch = (own.branch.0, own.branch.1, top_alone invite.request.vias ∙ own.branch.2);
+          via = (own.via.0, via_alone invite.request.vias ∙ own.via.1);
           method = no_cancel;
           event_is = λ other. absurd (other refl);
           cancels = λ is. record { request = invite.request; asked = asks; is = refl };
@@ -369,8 +387,12 @@ module _ (seed call_id : List ℕ) (Came : Id → Type 0) (Cancels : Id → Mess
           branch = (
             event.id,
             comes.came,
-            like.branch
+            like_branch like
                 ∙ (agent_branch event.local (branch_of event) ∙ own_branch event comes),
+          );
+          via = (
+            branch_of event,
+            like.via ∙ ap (λ at. Some (agent_via at (branch_of event))) comes.home_is,
           );
           method = λ ack. other (sym like.method ∙ ack);
           event_is = λ other. refl;

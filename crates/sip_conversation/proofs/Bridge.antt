@@ -68,6 +68,11 @@ read_or_long message rules =
     (λ long. inr (ltb-true 65535 (length text) long))
     (λ short. inl (read_again message rules (ltb-false 65535 (length text) short)))
 
+-- the address to which the answer to what came from an address goes
+abbrev pub answered_to : Addr → Message → Addr
+answered_to from message =
+    if is_request_message message then answer_address message from else from
+
 module _ (config : Config) (Fits : Key → Input → Type 0) (id : Id) (from : Addr) where
   abbrev ReceiptFits : Message → Addr → Type 0
   ReceiptFits message reply_to = Fits (key_of_message message) (Receive id message reply_to)
@@ -81,21 +86,21 @@ module _ (config : Config) (Fits : Key → Input → Type 0) (id : Id) (from : A
 
   -- whatever is received for a message fits
   by_request : (request : Bool) (message : Message)
-      → ((reply_to : Addr) → ReceiptFits (if request then stamped message from else message)
-      reply_to)
+      → ReceiptFits (if request then stamped message from else message)
+      (if request then answer_address message from else from)
       → ArrivalFits config Fits (if request
       then arrival_for (keyed_input config.local id (stamped message from)
       (answer_address message from))
       else arrival_for (keyed_input config.local id message from))
   by_request true message fits =
       stray_or_not (is_stray config.local (stamped message from)) (stamped message from)
-      (answer_address message from) (fits (answer_address message from))
+      (answer_address message from) fits
   by_request false message fits =
-      stray_or_not (is_stray config.local message) message from (fits from)
+      stray_or_not (is_stray config.local message) message from fits
 
   long_or_read : (message : Message) (read : Result Message ReadFault)
-      → (length (written message) ≤ 65535 → (reply_to : Addr)
-      → ReceiptFits (come_from from message) reply_to)
+      → (length (written message) ≤ 65535
+      → ReceiptFits (come_from from message) (answered_to from message))
       → ((read ≡ Ok message) × (length (written message) ≤ 65535)) ⊎ (read ≡ Err fault.TooLong)
       → ArrivalFits config Fits (datagram_arrival config.local id from read)
   unfolding message_arrival
@@ -109,8 +114,8 @@ module _ (config : Config) (Fits : Key → Input → Type 0) (id : Id) (from : A
   -- from there does; a text that is too long is dropped
   pub text_fits : (message : Message) (bytes : List ℕ) → bytes ≡ written message
       → IsMessage message
-      → (length (written message) ≤ 65535 → (reply_to : Addr)
-      → ReceiptFits (come_from from message) reply_to)
+      → (length (written message) ≤ 65535
+      → ReceiptFits (come_from from message) (answered_to from message))
       → ArrivalFits config Fits (arrival_of config.local id (Datagram from bytes))
   unfolding arrival_of
   text_fits message bytes is rules fits =
@@ -132,7 +137,7 @@ any_arrival config Fits receipts failures id (event.Datagram from bytes) =
         → ArrivalFits config Fits (datagram_arrival config.local id from read)
     by_read (Ok message) =
         by_request config Fits id from (is_request_message message) message
-        (λ reply_to. receipts id (come_from from message) reply_to)
+        (receipts id (come_from from message) (answered_to from message))
     by_read (Err fault) = tt
 any_arrival config Fits receipts failures id (event.Failed key) = failures key id
 any_arrival config Fits receipts failures id (event.Command command) = tt

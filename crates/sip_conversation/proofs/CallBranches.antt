@@ -47,16 +47,16 @@ AnyCancel id request = Unit {0}
 module _ (calls : Calls) (call_id : List ℕ) (Came : Id → Type 0)
     (Cancels : Id → Message → Type 0) where
   abbrev pub OwnClients : Call → Type 0
-  OwnClients call = AreOwn calls.seed call_id Came Cancels call.clients
+  OwnClients call = AreOwn calls.local calls.seed call_id Came Cancels call.clients
 
   abbrev pub OutIsOwn : CallOut → Type 0
-  OutIsOwn = OutSays calls.seed call_id Came Cancels
+  OutIsOwn = OutSays calls.local calls.seed call_id Came Cancels
 
   abbrev Says : List CallOut → Type 0
   Says outs = AllByRecursion OutIsOwn outs
 
   abbrev ComesOf : Event → Type 0
-  ComesOf = Comes calls.seed call_id Came Cancels
+  ComesOf = Comes calls.local calls.seed call_id Came Cancels
 
   abbrev Done : CallTaken → Type 0
   Done taken = OwnClients taken.0 × Says taken.1
@@ -84,10 +84,10 @@ module _ (calls : Calls) (call_id : List ℕ) (Came : Id → Type 0)
       × AllCancel (call_step calls state timed.input timed.moment).0 inputs
 
   says_none : (outs : List CallOut) → starts outs ≡ [] → Says outs
-  says_none outs none = silent_say calls.seed call_id Came Cancels outs none
+  says_none outs none = silent_say calls.local calls.seed call_id Came Cancels outs none
 
   comes_so : (id : Id) (now : ℕ) → Came id → ComesOf (event_of calls id now)
-  comes_so id now came = record { seed_is = refl; came = came }
+  comes_so id now came = record { home_is = refl; seed_is = refl; came = came }
 
   -- ---- what comes up
 
@@ -110,13 +110,13 @@ module _ (calls : Calls) (call_id : List ℕ) (Came : Id → Type 0)
         ∙ kind_starts call.served (made_tag (event_of calls id now)) up (kind.Ack ack) now),
   )
   up_own call id now up (kind.Response response) came sides own =
-      received_own calls.seed call_id Came Cancels (event_of calls id now) up.id up.call_id response
+      received_own calls.local calls.seed call_id Came Cancels (event_of calls id now) up.id up.call_id response
       (side_of call) (comes_so id now came) (sides.state).dialogs own
   up_own call id now up kind.Timeout came sides own =
-      let so = lost_own calls.seed call_id Came Cancels up.id true (side_of call) own in
+      let so = lost_own calls.local calls.seed call_id Came Cancels up.id true (side_of call) own in
       (so.0, (tt, so.1))
   up_own call id now up kind.Failed came sides own =
-      let so = lost_own calls.seed call_id Came Cancels up.id false (side_of call) own in
+      let so = lost_own calls.local calls.seed call_id Came Cancels up.id false (side_of call) own in
       (so.0, (tt, so.1))
 
   -- ---- commands
@@ -125,10 +125,10 @@ module _ (calls : Calls) (call_id : List ℕ) (Came : Id → Type 0)
       → call_of_command command ≡ call_id → OwnClients call
       → Done (item_of_call false call (event_of calls id now) (User command))
   first_own call id now (user.Invite invite) came its own =
-      invite_own calls.seed call_id Came Cancels (event_of calls id now) invite call.clients
+      invite_own calls.local calls.seed call_id Came Cancels (event_of calls id now) invite call.clients
       (comes_so id now came) its own
   first_own call id now (user.Plain plain) came its own =
-      plain_own calls.seed call_id Came Cancels (event_of calls id now) plain call.clients
+      plain_own calls.local calls.seed call_id Came Cancels (event_of calls id now) plain call.clients
       (comes_so id now came) its own
   first_own call id now (user.Request request) came its own = (own, (tt, tt))
   first_own call id now (user.Respond respond) came its own = (own, (tt, tt))
@@ -144,7 +144,7 @@ module _ (calls : Calls) (call_id : List ℕ) (Came : Id → Type 0)
   command_own call id now (user.Invite invite) came asks sides own = (own, (tt, tt))
   command_own call id now (user.Plain plain) came asks sides own = (own, (tt, tt))
   command_own call id now (user.Request request) came asks sides own =
-      request_own calls.seed call_id Came Cancels (event_of calls id now) request (side_of call)
+      request_own calls.local calls.seed call_id Came Cancels (event_of calls id now) request (side_of call)
       (comes_so id now came) (sides.state).dialogs own
   command_own call id now (user.Respond respond) came asks sides own = (
     own,
@@ -152,19 +152,19 @@ module _ (calls : Calls) (call_id : List ℕ) (Came : Id → Type 0)
         (respond_same call.served id respond now) ∙ respond_starts call.served id respond now),
   )
   command_own call id now (user.Ack ack) came asks sides own =
-      ack_own calls.seed call_id Came Cancels (event_of calls id now) ack (side_of call)
+      ack_own calls.local calls.seed call_id Came Cancels (event_of calls id now) ack (side_of call)
       (comes_so id now came) (sides.state).dialogs own
   command_own call id now (user.Prack prack) came asks sides own =
-      prack_own calls.seed call_id Came Cancels (event_of calls id now) prack (side_of call)
+      prack_own calls.local calls.seed call_id Came Cancels (event_of calls id now) prack (side_of call)
       (comes_so id now came) (sides.state).dialogs own
   command_own call id now (user.Cancel cancel) came asks sides own =
-      cancel_taken calls.seed call_id Came Cancels (event_of calls id now) cancel (side_of call)
+      cancel_taken calls.local calls.seed call_id Came Cancels (event_of calls id now) cancel (side_of call)
       (comes_so id now came) asks own
   command_own call id now (user.AbandonRequest abandon) came asks sides own =
       request_given_up (event_of calls id now) abandon (side_of call)
       (λ taken. Done (by_clients call taken)) (own, (tt, tt))
       (λ client.
-      let so = lost_own calls.seed call_id Came Cancels abandon.id false (side_of call) own in
+      let so = lost_own calls.local calls.seed call_id Came Cancels abandon.id false (side_of call) own in
       (so.0, (tt, so.1)))
   command_own call id now (user.AbandonDialog abandon) came asks sides own =
       dialog_given_up (event_of calls id now) abandon (side_of call)
@@ -191,7 +191,7 @@ module _ (calls : Calls) (call_id : List ℕ) (Came : Id → Type 0)
 
   tick_own : (call : Call) (now : ℕ) → OwnClients call → OwnClients (call_tick call now).0
   unfolding client_tick
-  tick_own call now own = each_left (Own calls.seed call_id Came Cancels) _ call.clients own
+  tick_own call now own = each_left (Own calls.local calls.seed call_id Came Cancels) _ call.clients own
 
   step_own : (state : Option Call) (input : Option CallItem) (now : ℕ) → InputComes input
       → InputCancels state input → IsCallOf call_id state → HeldOwn state

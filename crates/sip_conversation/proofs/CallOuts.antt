@@ -1,5 +1,5 @@
 -- A call tells its user of a response only if one comes up, with its Call-ID, id, status, tags and
--- body.
+-- body. It gives up only transactions of clients.
 use Rattle.sip_calls.specs.Call.{CallItem, Taken, call_machine, call_step, event_of, made_tag, new_call}
 use Rattle.sip_calls.specs.Sides.{by_server, side_of}
 use Rattle.sip_calls.specs.declared.call.Call.{Call}
@@ -17,8 +17,11 @@ use Rattle.sip_user.specs.declared.item.CallOut.{CallOut}
 use Rattle.sip_user.specs.declared.item.Item.TheVariants.{Up, User}
 use Rattle.sip_user.specs.declared.notice.Notice.{Notice}
 use Rattle.sip_clients.proofs.ClientOuts.{Allows, abandon_dialog_told, abandon_request_told, ack_command_told, cancel_told, clients_tick, command_told, invite_told, lost_told, plain_told, prack_command_told, response_told}
+use Rattle.sip_message.specs.Key.{side_of as key_side}
 use Rattle.sip_message.specs.Party.{tag_of}
 use Rattle.sip_message.specs.declared.id.Id.{Id}
+use Rattle.sip_transactions.specs.declared.input.Command.{Command}
+use Rattle.sip_transactions.specs.declared.input.Command.TheVariants as order
 use Rattle.sip_message.specs.declared.message.Message.{Message}
 use Rattle.keyed_machine.specs.Machine.{Timed, outputs_from}
 use Rattle.sip_served.specs.declared.held_request.HeldRequest.{HeldRequest}
@@ -29,7 +32,7 @@ use Rattle.sip_served.specs.Step.{kind_taken}
 use Rattle.sip_served.specs.Tick.{tick_taken}
 use Rattle.sip_transactions.specs.declared.output.UpKind.{UpKind}
 use Rattle.sip_transactions.specs.declared.output.Up.{Up as AnUp}
-use Rattle.std.proofs.Common.{◌≡◌, ℕ, true, false, List, [], ◌∷◌, subst, sym}
+use Rattle.std.proofs.Common.{◌≡◌, ℕ, true, false, List, [], ◌∷◌, refl, subst, sym}
 use Rattle.std.specs.List.{AllByRecursion}
 use Rattle.std.specs.Prelude.{Option, None, Some, IfSome}
 use Rattle.sip_served.proofs.ServedAnswers.{AllowsServed, IsOther, KeepsGiven, KindGiven, OwnAnswers, StateGiven, kind_fits, respond_fits, server_tick}
@@ -67,9 +70,14 @@ module _ (Tells : List ℕ → Id → ℕ → List ℕ → List ℕ → List ℕ
       Tells call_id id status local_tag remote_tag body
   NoticeTells _ = Unit {0}
 
+  abbrev pub IsForClient : Command → Type 0
+  IsForClient (order.Start key call_id message to) = Unit {0}
+  IsForClient (order.Answer key message) = Unit {0}
+  IsForClient (order.Abandon key) = key_side key ≡ 0
+
   abbrev pub OutFits : CallOut → Type 0
   OutFits (out.Notice told) = NoticeTells told
-  OutFits (out.Command id command) = Unit {0}
+  OutFits (out.Command id command) = IsForClient command
   OutFits (out.Direct to bytes) = Unit {0}
 
   abbrev Fit : List CallOut → Type 0
@@ -197,7 +205,7 @@ module _ (Tells : List ℕ → Id → ℕ → List ℕ → List ℕ → List ℕ
   user_fits call event (user.Cancel cancel) =
       cancel_told OutFits allows event cancel (side_of call)
   user_fits call event (user.AbandonRequest abandon) =
-      abandon_request_told OutFits allows event abandon (side_of call) (λ client. tt)
+      abandon_request_told OutFits allows event abandon (side_of call) (λ client. refl)
   user_fits call event (user.AbandonDialog abandon) =
       abandon_dialog_told OutFits allows event abandon (side_of call)
 
@@ -240,3 +248,34 @@ module _ (Tells : List ℕ → Id → ℕ → List ℕ → List ℕ → List ℕ
       both OutFits step.1 (outputs_from (call_machine calls) call_id step.0 inputs)
       (step_fits calls state timed.input timed.moment fit.0)
       (all_fit calls call_id step.0 inputs fit.1)
+
+-- ---- whatever comes
+
+abbrev AnyResponse : List ℕ → Id → ℕ → List ℕ → List ℕ → List ℕ → Type 0
+AnyResponse call_id id status local_tag remote_tag body = Unit {0}
+
+any_tells : (call_id : List ℕ) (id : Id) (k : UpKind) → KindTells AnyResponse call_id id k
+any_tells call_id id (kind.Request request reply_to) = tt
+any_tells call_id id (kind.Ack ack) = tt
+any_tells call_id id (kind.Response response) = λ status is. tt
+any_tells call_id id kind.Timeout = tt
+any_tells call_id id kind.Failed = tt
+
+any_input : (input : Option CallItem) → InputFits AnyResponse input
+any_input None = tt
+any_input (Some (event, Up up)) = any_tells up.call_id up.id up.kind
+any_input (Some (event, User command)) = tt
+
+any_inputs : (inputs : List (Timed CallItem))
+    → AllByRecursion (λ timed. InputFits AnyResponse timed.input) inputs
+any_inputs [] = tt
+any_inputs (timed ∷ inputs) = (any_input timed.input, any_inputs inputs)
+
+abbrev pub GivesUpClients : CallOut → Type 0
+GivesUpClients = OutFits AnyResponse
+
+pub gives_up_clients : (calls : Calls) (call_id : List ℕ) (state : Option Call)
+    (inputs : List (Timed CallItem))
+    → AllByRecursion GivesUpClients (outputs_from (call_machine calls) call_id state inputs)
+gives_up_clients calls call_id state inputs =
+    all_fit AnyResponse calls call_id state inputs (any_inputs inputs)

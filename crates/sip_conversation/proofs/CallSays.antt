@@ -1,10 +1,13 @@
 -- What a call says: requests that it starts, answers of its user or its own to requests that came
--- up, and texts of ACKs.
+-- up, each by the transaction of its request, and texts of ACKs.
 use Rattle.std.proofs.Common.{ℕ, Bool, true, false, cond, List, [], ◌∷◌, subst, sym}
 use Rattle.std.specs.Prelude.{Option, None, Some, IfSome}
 use Rattle.std.specs.List.{AllByRecursion}
+use Rattle.sip_message.specs.declared.id.Id.{Id}
+use Rattle.sip_message.specs.declared.key.Key.{Key}
 use Rattle.sip_message.specs.declared.message.Message.{Message}
 use Rattle.keyed_machine.specs.Machine.{Timed, outputs_from}
+use Rattle.sip_transactions.specs.declared.input.Command.TheVariants as order
 use Rattle.sip_transactions.specs.declared.output.UpKind.{UpKind}
 use Rattle.sip_transactions.specs.declared.output.UpKind.TheVariants as kind
 use Rattle.sip_transactions.specs.declared.output.Up.{Up as AnUp}
@@ -12,9 +15,11 @@ use Rattle.sip_held_dialogs.proofs.Each.{both}
 use Rattle.sip_user.specs.declared.command.UserCommand.{UserCommand}
 use Rattle.sip_user.specs.declared.command.UserCommand.TheVariants as user
 use Rattle.sip_user.specs.declared.item.CallOut.{CallOut}
+use Rattle.sip_user.specs.declared.item.CallOut.TheVariants as out
 use Rattle.sip_user.specs.declared.item.Item.TheVariants.{Up, User}
 use Rattle.sip_served.specs.Tick.{tick_taken}
 use Rattle.sip_served.specs.declared.arrival.Arrival.{Arrival}
+use Rattle.sip_clients.specs.Clients.{invite_taken, plain_taken}
 use Rattle.sip_clients.specs.Tick.{clients_ticked}
 use Rattle.sip_calls.specs.Call.{CallItem, Taken, call_machine, call_step, event_of, kept, made_tag, new_call}
 use Rattle.sip_calls.specs.Sides.{by_server, holds_any, side_of}
@@ -24,8 +29,9 @@ use Rattle.sip_calls.specs.declared.call.Call.{Call}
 use Rattle.sip_calls.specs.declared.calls.Calls.{Calls}
 use Rattle.sip_clients.specs.declared.event.Event.{Event}
 use Rattle.sip_clients.specs.Name.{name_of}
-use Rattle.sip_clients.proofs.ClientAsks.{AskAll, OutSays, abandon_dialog_says, abandon_request_says, ack_command_says, cancel_says, clients_tick_says, command_says, invite_says, lost_says, plain_says, prack_command_says, response_says}
+use Rattle.sip_clients.proofs.ClientAsks.{AskAll, IsAckText, IsAsk, OutSays, abandon_dialog_says, abandon_request_says, ack_command_says, cancel_says, clients_tick_says, command_says, invite_says, lost_says, plain_says, prack_command_says, response_says}
 use Rattle.sip_conversation.proofs.Along.{Along}
+use Rattle.sip_conversation.proofs.Among.{all_go}
 use Rattle.sip_conversation.proofs.ServedReplies.{AllowsServed, KindBrought, OwnReplies, RespondGiven, StateGiven, kind_fits, respond_fits, tick_fits}
 
 -- nothing is required of Call-IDs and of ACKs here
@@ -35,11 +41,40 @@ AnyCall call_id = Unit {0}
 abbrev pub AnyAck : Message → Type 0
 AnyAck ack = Unit {0}
 
+-- the client side gives no answer
+abbrev NoAnswer : Message → Type 0
+NoAnswer message = ⊥
+
+module _ (Says : Id → Key → Message → Type 0) where
+  -- a transaction is started with a request; of an answer this is said, with the id of its request
+  -- and the key of its transaction
+  abbrev pub OutGives : CallOut → Type 0
+  OutGives (out.Notice notice) = Unit {0}
+  OutGives (out.Command id (order.Start key call_id message to)) = IsAsk message
+  OutGives (out.Command id (order.Answer key message)) = Says id key message
+  OutGives (out.Command id (order.Abandon key)) = Unit {0}
+  OutGives (out.Direct to bytes) = IsAckText bytes
+
+  client_gives : (o : CallOut) → OutSays NoAnswer o → OutGives o
+  client_gives (out.Notice notice) says = tt
+  client_gives (out.Command id (order.Start key call_id message to)) says = says
+  client_gives (out.Command id (order.Answer key message)) says = absurd says
+  client_gives (out.Command id (order.Abandon key)) says = tt
+  client_gives (out.Direct to bytes) says = says
+
+  clients_give : (outs : List CallOut) → AllByRecursion (OutSays NoAnswer) outs
+      → AllByRecursion OutGives outs
+  clients_give outs all = all_go {P = OutSays NoAnswer} {Q = OutGives} client_gives outs all
+
 module _ (Brought : Arrival → Type 0) (Given : Arrival → Message → Type 0)
-    (Says : Message → Type 0)
-    (says : (arrival : Arrival) (response : Message) → Given arrival response → Says response)
+    (Says : Id → Key → Message → Type 0)
+    (says : (arrival : Arrival) (response : Message) → Given arrival response
+    → Says arrival.id arrival.key response)
     (own : OwnReplies Brought Given) where
-  allows : AllowsServed AnyCall Brought AnyAck Given (OutSays Says)
+  abbrev Gives : CallOut → Type 0
+  Gives = OutGives Says
+
+  allows : AllowsServed AnyCall Brought AnyAck Given Gives
   allows = record {
     told = λ one other. tt;
     request = λ call_id arrival its came none other. tt;
@@ -55,7 +90,7 @@ module _ (Brought : Arrival → Type 0) (Given : Arrival → Message → Type 0)
     pub clients : AskAll call.clients
 
   abbrev Say : List CallOut → Type 0
-  Say outs = AllByRecursion (OutSays Says) outs
+  Say outs = AllByRecursion Gives outs
 
   abbrev CallSays : Call × List CallOut → Type 0
   CallSays taken = CallIs taken.0 × Say taken.1
@@ -88,31 +123,35 @@ module _ (Brought : Arrival → Type 0) (Given : Arrival → Message → Type 0)
       → KindBrought AnyCall Brought AnyAck (made_tag event) up k
       → CallIs call → CallSays (up_taken call event up k)
   up_says call event up (kind.Request request reply_to) came is =
-      let fits = kind_fits AnyCall Brought AnyAck Given (OutSays Says) allows own call.served
+      let fits = kind_fits AnyCall Brought AnyAck Given Gives allows own call.served
       (made_tag event) up (kind.Request request reply_to) event.moment came is.served in
       (record { served = fits.0; clients = is.clients }, fits.1)
   up_says call event up (kind.Ack ack) came is =
-      let fits = kind_fits AnyCall Brought AnyAck Given (OutSays Says) allows own call.served
+      let fits = kind_fits AnyCall Brought AnyAck Given Gives allows own call.served
       (made_tag event) up (kind.Ack ack) event.moment came is.served in
       (record { served = fits.0; clients = is.clients }, fits.1)
   up_says call event up (kind.Response response) came is =
-      let so = response_says Says event up.id up.call_id response (side_of call) is.clients in
-      (record { served = is.served; clients = so.0 }, so.1)
+      let so = response_says NoAnswer event up.id up.call_id response (side_of call) is.clients in
+      (record { served = is.served; clients = so.0 }, clients_give Says _ so.1)
   up_says call event up kind.Timeout came is =
-      let so = lost_says Says up.id true (side_of call) is.clients in
-      (record { served = is.served; clients = so.0 }, (tt, so.1))
+      let so = lost_says NoAnswer up.id true (side_of call) is.clients in
+      (record { served = is.served; clients = so.0 }, (tt, clients_give Says _ so.1))
   up_says call event up kind.Failed came is =
-      let so = lost_says Says up.id false (side_of call) is.clients in
-      (record { served = is.served; clients = so.0 }, (tt, so.1))
+      let so = lost_says NoAnswer up.id false (side_of call) is.clients in
+      (record { served = is.served; clients = so.0 }, (tt, clients_give Says _ so.1))
 
   first_says : (call : Call) (event : Event) (command : UserCommand) → CallIs call
       → CallSays (first_command_taken call event command)
   first_says call event (user.Invite invite) is =
-      let so = invite_says Says event invite call.clients is.clients in
-      (record { served = is.served; clients = so.0 }, so.1)
+      let so = invite_says NoAnswer event invite call.clients is.clients in (
+        record { served = is.served; clients = so.0 },
+        clients_give Says (invite_taken event invite call.clients).1 so.1,
+      )
   first_says call event (user.Plain plain) is =
-      let so = plain_says Says event plain call.clients is.clients in
-      (record { served = is.served; clients = so.0 }, so.1)
+      let so = plain_says NoAnswer event plain call.clients is.clients in (
+        record { served = is.served; clients = so.0 },
+        clients_give Says (plain_taken event plain call.clients).1 so.1,
+      )
   first_says call event (user.Request request) is = (is, (tt, tt))
   first_says call event (user.Respond respond) is = (is, (tt, tt))
   first_says call event (user.Ack ack) is = (is, (tt, tt))
@@ -127,36 +166,37 @@ module _ (Brought : Arrival → Type 0) (Given : Arrival → Message → Type 0)
   user_says call event (user.Invite invite) gives is = (is, (tt, tt))
   user_says call event (user.Plain plain) gives is = (is, (tt, tt))
   user_says call event (user.Request request) gives is =
-      let so = command_says Says event request (side_of call) is.clients in
-      (record { served = is.served; clients = so.0 }, so.1)
+      let so = command_says NoAnswer event request (side_of call) is.clients in
+      (record { served = is.served; clients = so.0 }, clients_give Says _ so.1)
   user_says call event (user.Respond respond) gives is =
-      let fits = respond_fits AnyCall Brought AnyAck Given (OutSays Says) allows call.served
+      let fits = respond_fits AnyCall Brought AnyAck Given Gives allows call.served
       event.id respond event.moment gives is.served in
       (record { served = fits.0; clients = is.clients }, fits.1)
   user_says call event (user.Ack ack) gives is =
-      let so = ack_command_says Says event ack (side_of call) is.clients in
-      (record { served = is.served; clients = so.0 }, so.1)
+      let so = ack_command_says NoAnswer event ack (side_of call) is.clients in
+      (record { served = is.served; clients = so.0 }, clients_give Says _ so.1)
   user_says call event (user.Prack prack) gives is =
-      let so = prack_command_says Says event prack (side_of call) is.clients in
-      (record { served = is.served; clients = so.0 }, so.1)
+      let so = prack_command_says NoAnswer event prack (side_of call) is.clients in
+      (record { served = is.served; clients = so.0 }, clients_give Says _ so.1)
   user_says call event (user.Cancel cancel) gives is =
-      let so = cancel_says Says event cancel (side_of call) is.clients in
-      (record { served = is.served; clients = so.0 }, so.1)
+      let so = cancel_says NoAnswer event cancel (side_of call) is.clients in
+      (record { served = is.served; clients = so.0 }, clients_give Says _ so.1)
   user_says call event (user.AbandonRequest abandon) gives is =
-      let so = abandon_request_says Says event abandon (side_of call) is.clients in
-      (record { served = is.served; clients = so.0 }, so.1)
+      let so = abandon_request_says NoAnswer event abandon (side_of call) is.clients in
+      (record { served = is.served; clients = so.0 }, clients_give Says _ so.1)
   user_says call event (user.AbandonDialog abandon) gives is =
-      let so = abandon_dialog_says Says event abandon (side_of call) is.clients in
-      (record { served = is.served; clients = so.0 }, so.1)
+      let so = abandon_dialog_says NoAnswer event abandon (side_of call) is.clients in
+      (record { served = is.served; clients = so.0 }, clients_give Says _ so.1)
 
   tick_says : (call : Call) (now : ℕ) → CallIs call → CallSays (ticked call now)
   tick_says call now is =
       let first = by_server call (tick_taken call.served now) in
-      let fits = tick_fits AnyCall Brought AnyAck Given (OutSays Says) allows call.served now
+      let fits = tick_fits AnyCall Brought AnyAck Given Gives allows call.served now
       is.served in
-      let so = clients_tick_says Says (side_of first.0) now is.clients in (
+      let so = clients_tick_says NoAnswer (side_of first.0) now is.clients in (
         record { served = fits.0; clients = so.0 },
-        both (OutSays Says) first.1 (clients_ticked (side_of first.0) now).1 fits.1 so.1,
+        both Gives first.1 (clients_ticked (side_of first.0) now).1 fits.1
+            (clients_give Says (clients_ticked (side_of first.0) now).1 so.1),
       )
 
   abbrev HeldIs : Option Call → Type 0
@@ -210,10 +250,10 @@ module _ (Brought : Arrival → Type 0) (Given : Arrival → Message → Type 0)
   pub all_say : (calls : Calls) (call_id : List ℕ) (state : Option Call)
       (inputs : List (Timed CallItem))
       → AllGive calls state inputs → HeldIs state
-      → AllByRecursion (OutSays Says) (outputs_from (call_machine calls) call_id state inputs)
+      → AllByRecursion Gives (outputs_from (call_machine calls) call_id state inputs)
   all_say calls call_id state [] gives is = tt
   all_say calls call_id state (timed ∷ inputs) gives is =
       let step = call_step calls state timed.input timed.moment in
       let after = step_says calls state timed.input timed.moment gives.0 is in
-      both (OutSays Says) step.1 (outputs_from (call_machine calls) call_id step.0 inputs)
+      both Gives step.1 (outputs_from (call_machine calls) call_id step.0 inputs)
       after.1 (all_say calls call_id step.0 inputs gives.1 after.0)

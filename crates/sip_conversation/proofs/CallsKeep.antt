@@ -159,7 +159,7 @@ module _ (configs : Side → Config) (fair : IsFair configs) where
   unfolding arrival_of
   fine_arrives s (event.Datagram from bytes) fine id =
       text_fits (configs s) ReceivesSound id from fine.1 bytes fine.2 fine.3
-      (λ short reply_to. come_keeps from (subst IsAddr (sym fine.0) (fair.addresses (peer s)))
+      (λ short. come_keeps from (subst IsAddr (sym fine.0) (fair.addresses (peer s)))
       fine.1 fine.3)
   fine_arrives s (event.Failed key) fine id = tt
   fine_arrives s (event.Command c) fine id = tt

@@ -1,5 +1,5 @@
 -- What arrives in a round is given to its transaction; so is a request whose text comes.
-use Rattle.std.proofs.Common.{◌≡◌, ⊎_elim, ℕ, suc, ◌≤◌, true, ◌&&◌, List, [], ◌∷◌, ◌++◌, length, sym, ap, ◌∙◌, subst, arith}
+use Rattle.std.proofs.Common.{◌≡◌, ⊎_elim, ℕ, suc, ◌+◌, ◌≤◌, true, false, ◌&&◌, List, [], ◌∷◌, ◌++◌, length, sym, ap, ◌∙◌, subst, arith}
 use Rattle.std.specs.Prelude.{Contains, None, Some, Ok, filter, if◌then◌else◌, not}
 use Rattle.std.specs.BTreeMap.{is_at}
 use Rattle.std.proofs.lemmas.List.Elements.{Contains-append_left, Contains-append_right}
@@ -27,13 +27,14 @@ use Rattle.sip_round.specs.declared.config.Config.{Config}
 use Rattle.sip_round.specs.declared.round.Event.{Event}
 use Rattle.sip_round.specs.declared.round.Event.TheVariants.{Datagram}
 use Rattle.sip_round.specs.declared.round.Round.{Round}
-use Rattle.sip_round.specs.Answers.{Past, arrivals, first, no_past, past_after, past_of, third}
-use Rattle.sip_round.specs.Arrivals.{Arrival, arrival_for, arrival_of, arrivals_from, datagram_arrival, message_arrival}
+use Rattle.sip_round.specs.Answers.{Past, arrivals, first, no_past, past_after, past_from, past_of, third}
+use Rattle.sip_round.specs.Arrivals.{arrival_for, arrival_of, arrivals_from, datagram_arrival, message_arrival}
 use Rattle.sip_round.specs.Arrivals as arrival
 use Rattle.sip_round.specs.Phases.{transaction_item, transaction_items}
 use Rattle.sip_conversation.specs.Messages.{IsGiven, come_from}
 use Rattle.sip_conversation.proofs.Among.{among_first, among_kept, first_or_later, mapped_among, none_among}
 use Rattle.sip_conversation.proofs.Bridge.{read_or_long}
+use Rattle.sip_conversation.proofs.RoundInputs.{inputs_after}
 use Rattle.sip_conversation.proofs.Rounds.{transactions_are, transactions_from}
 
 -- ---- an event
@@ -131,6 +132,14 @@ module _ (config : Config) (key : Key) (e : Event) (input : Id → Input)
         ),
       )
 
+  -- in rounds after others
+  pub given_after : (rounds more : List Round) (round : Round) → Contains more round
+      → Contains round.events e → (id : Id) × (now : ℕ)
+      × Contains (inputs_after config key rounds more) (given_at now (input id))
+  given_after rounds more round among has =
+      from_given (config.first + length rounds) (past_from config config.first no_past rounds) more
+      round among has
+
 -- ---- the text of a request
 
 module _ (request : Message) (rules : IsMessage request)
@@ -186,3 +195,53 @@ module _ (request : Message) (rules : IsMessage request)
       event_given config (key_of_message as_it_comes) (Datagram from (written request))
       (λ id. Receive id as_it_comes (answer_address request from))
       (λ id. text_arrives config.local id) rounds round among has
+
+  pub text_given_after : (config : Config) (rounds more : List Round) (round : Round)
+      → Contains more round → Contains round.events (Datagram from (written request))
+      → (id : Id) × (now : ℕ)
+      × Contains (inputs_after config (key_of_message as_it_comes) rounds more)
+      (given_at now (Receive id as_it_comes (answer_address request from)))
+  text_given_after config rounds more round among has =
+      given_after config (key_of_message as_it_comes) (Datagram from (written request))
+      (λ id. Receive id as_it_comes (answer_address request from))
+      (λ id. text_arrives config.local id) rounds more round among has
+
+-- ---- the text of a response
+
+module _ (response : Message) (rules : IsMessage response)
+    (short : length (written response) ≤ 65535) (replies : is_request_message response ≡ false)
+    (from : Addr) where
+  reply_read : message_at (written response) ≡ Ok response
+  reply_read = ⊎_elim (λ read. read) (λ long. absurd (omega arith)) (read_or_long response rules)
+
+  reply_is : (local : Addr) → is_sent_by_of response local ≡ true → (id : Id)
+      → message_arrival local id from response
+      ≡ arrival.Transaction (key_of_message response) (Receive id response from)
+  unfolding message_arrival
+  reply_is local own id =
+      ap (λ b. if b then arrival_for (keyed_input local id (stamped response from)
+      (answer_address response from))
+      else arrival_for (keyed_input local id response from)) replies
+      ∙ (ap (λ b. arrival_for (if not b && not (is_sent_by_of response local) then None
+      else Some (key_of_message response, Receive id response from))) replies
+      ∙ ap (λ b. arrival_for (if not b then None
+      else Some (key_of_message response, Receive id response from))) own)
+
+  reply_arrives : (local : Addr) → is_sent_by_of response local ≡ true → (id : Id)
+      → arrival_of local id (Datagram from (written response))
+      ≡ arrival.Transaction (key_of_message response) (Receive id response from)
+  unfolding arrival_of
+  reply_arrives local own id =
+      ap (datagram_arrival local id from) reply_read ∙ reply_is local own id
+
+  -- if its text comes to the agent that its top Via names, its transaction is given the response
+  pub reply_given_after : (config : Config) → is_sent_by_of response config.local ≡ true
+      → (rounds more : List Round) (round : Round) → Contains more round
+      → Contains round.events (Datagram from (written response))
+      → (id : Id) × (now : ℕ)
+      × Contains (inputs_after config (key_of_message response) rounds more)
+      (given_at now (Receive id response from))
+  reply_given_after config own rounds more round among has =
+      given_after config (key_of_message response) (Datagram from (written response))
+      (λ id. Receive id response from)
+      (λ id. reply_arrives config.local own id) rounds more round among has

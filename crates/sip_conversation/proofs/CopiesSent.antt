@@ -1,7 +1,10 @@
 -- What a transaction sends to an address is among what its agent sends there.
-use Rattle.std.proofs.Common.{◌≡◌, ℕ, ◌+◌, ◌≤◌, Bool, true, false, cond, List, [], ◌∷◌, ◌++◌, refl, sym, ap, ◌∙◌, subst, arith, append_assoc}
+use Rattle.std.proofs.Common.{◌≡◌, ℕ, ◌+◌, ◌≤◌, Bool, true, false, cond, List, [], ◌∷◌, ◌++◌, drop, length, refl, sym, ap, ◌∙◌, subst, arith, append_assoc}
 use Rattle.std.specs.Prelude.{Option, None, count_by, filter}
 use Rattle.std.specs.List.{flat_map}
+use Rattle.std.proofs.Math.Seq.{drop-append_seam}
+use Rattle.std.proofs.lemmas.Grind.{flat_map-append}
+use Rattle.std.proofs.lemmas.List.Elements.{filter-append}
 use Rattle.std.proofs.lemmas.List.Sums.{sum_by-append}
 use Rattle.sip_message.specs.declared.addr.Addr.{Addr}
 use Rattle.sip_message.specs.declared.key.Key.{Key}
@@ -16,13 +19,15 @@ use Rattle.sip_transactions.specs.Machine.{transaction_machine}
 use Rattle.sip_round.specs.declared.config.Config.{Config}
 use Rattle.sip_round.specs.declared.output.Output.{Output}
 use Rattle.sip_round.specs.declared.round.Round.{Round}
-use Rattle.sip_round.specs.Answers.{answers, past_of}
+use Rattle.sip_round.specs.Answers.{answer, answers, each_from, no_past, past_from, past_of}
 use Rattle.sip_round.specs.Given.{all_given, is_send_with, send_in}
 use Rattle.sip_round.specs.Laws.{inputs_of, said_of}
 use Rattle.sip_round.proofs.GivenSends.{sends_given}
+use Rattle.sip_round.proofs.Runs.{answers_count, each_from-append}
 use Rattle.sip_round.proofs.Said.{transaction_alone}
 use Rattle.sip_conversation.specs.Copies.{copies, is_copy}
 use Rattle.sip_conversation.specs.Delivery.{is_sent}
+use Rattle.sip_conversation.proofs.RoundInputs.{inputs-append, inputs_after}
 
 -- the outputs to inputs after others
 pub outputs-append : (machine : Machine Key Life (Timed Input) Out) (key : Key)
@@ -74,18 +79,66 @@ module _ (to : Addr) (bytes : List ℕ) where
 
   module _ (alone : EachKeyAlone key_cmp transaction_machine tick_at) (config : Config)
       (rounds : List Round) (key : Key) where
+    own_count : count_by (is_sent to bytes) (filter (is_send_with key)
+        (all_given (answers config rounds)))
+        ≡ copies to bytes (outputs_from transaction_machine key None (inputs_of config rounds key))
+    own_count =
+        ap (count_by (is_sent to bytes)) (sends_given config rounds key)
+        ∙ (same_count (said_of config rounds key)
+        ∙ ap (copies to bytes) (transaction_alone alone [] (past_of config rounds).transactions key))
+
     -- what it sends, from all its inputs
     pub sent_at_least : copies to bytes
         (outputs_from transaction_machine key None (inputs_of config rounds key))
         ≤ count_by (is_sent to bytes) (all_given (answers config rounds))
     sent_at_least =
         let given = all_given (answers config rounds) in
-        let fewer = fewer_kept (is_sent to bytes) (is_send_with key) given in
-        let said = same_count (said_of config rounds key) in
-        let kept = ap (count_by (is_sent to bytes)) (sends_given config rounds key) in
-        let own = ap (copies to bytes)
-        (transaction_alone alone [] (past_of config rounds).transactions key) in
-        subst (λ n. n ≤ count_by (is_sent to bytes) given) (kept ∙ (said ∙ own)) fewer
+        subst (λ n. n ≤ count_by (is_sent to bytes) given) own_count
+        (fewer_kept (is_sent to bytes) (is_send_with key) given)
+
+  -- what it sends in rounds after others
+  pub sent_after : EachKeyAlone key_cmp transaction_machine tick_at → (config : Config)
+      (rounds more : List Round) (key : Key)
+      → copies to bytes (outputs_from transaction_machine key
+      (state_after transaction_machine key (inputs_of config rounds key))
+      (inputs_after config key rounds more))
+      ≤ count_by (is_sent to bytes)
+      (all_given (drop (length rounds) (answers config (rounds ++ more))))
+  unfolding answers
+  sent_after alone config rounds more key =
+      let first = inputs_of config rounds key in
+      let later = inputs_after config key rounds more in
+      let outs = outputs_from transaction_machine key None first in
+      let more_outs = outputs_from transaction_machine key
+      (state_after transaction_machine key first) later in
+      let own = is_send_with key in
+      let before = each_from answer config config.first no_past rounds in
+      let after = each_from answer config (config.first + length rounds)
+      (past_from config config.first no_past rounds) more in
+      let parts : answers config (rounds ++ more) ≡ before ++ after =
+      each_from-append config answer config.first no_past rounds more in
+      let dropped : drop (length rounds) (answers config (rounds ++ more)) ≡ after =
+      ap (drop (length rounds)) parts
+      ∙ (ap (λ n. drop n (before ++ after)) (sym (answers_count config config.first no_past rounds))
+      ∙ drop-append_seam before after) in
+      subst (λ given. copies to bytes more_outs ≤ count_by (is_sent to bytes) (all_given given))
+      (sym dropped)
+      (omega (
+        arith,
+        own_count alone config (rounds ++ more) key,
+        ap (λ inputs. copies to bytes (outputs_from transaction_machine key None inputs))
+            (inputs-append config key rounds more),
+        ap (copies to bytes) (outputs-append transaction_machine key None first later),
+        sum_by-append (λ o. cond {A = ℕ} (is_copy to bytes o) 1 0) outs more_outs,
+        ap (λ given. count_by (is_sent to bytes) (filter own (all_given given))) parts,
+        ap (λ given. count_by (is_sent to bytes) (filter own given))
+            (flat_map-append (λ outputs. outputs) before after),
+        ap (count_by (is_sent to bytes)) (filter-append own (all_given before) (all_given after)),
+        sum_by-append (λ o. cond {A = ℕ} (is_sent to bytes o) 1 0) (filter own (all_given before))
+            (filter own (all_given after)),
+        own_count alone config rounds key,
+        fewer_kept (is_sent to bytes) own (all_given after),
+      ))
 
   pub later_copies : (key : Key) (before after : List (Timed Input))
       → state_after transaction_machine key before ≡ None

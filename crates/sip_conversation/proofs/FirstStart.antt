@@ -1,5 +1,5 @@
 -- A transaction of a client begins with its first start: nothing is held before.
-use Rattle.std.proofs.Common.{◌≡◌, ⊎_elim, ℕ, ◌≤◌, Bool, true, false, cond, List, [], ◌∷◌, ◌++◌, refl, ap, ◌∙◌, subst, codes, arith}
+use Rattle.std.proofs.Common.{◌≡◌, ⊎_elim, ℕ, Bool, true, false, cond, List, [], ◌∷◌, ◌++◌, refl, ap, ◌∙◌, subst, codes}
 use Rattle.std.specs.Prelude.{Contains, Option, None, Some}
 use Rattle.sip_message.specs.declared.addr.Addr.{Addr}
 use Rattle.sip_message.specs.declared.id.Id.{Id}
@@ -19,17 +19,16 @@ use Rattle.sip_transactions.specs.Machine.{transaction_machine}
 use Rattle.sip_transactions.specs.Steps.Input.{arrival_of, class_of, is_same_method, role_of}
 use Rattle.sip_transactions.specs.Steps.Life.{acted_if, begun, life_after, step_for, step_machine, stepped}
 use Rattle.sip_transactions.proofs.Rules.{at_steps}
-use Rattle.sip_conversation.proofs.Among.{each_of, first_or_later, none_among}
+use Rattle.sip_conversation.proofs.Among.{first_or_later, none_among}
 use Rattle.sip_conversation.proofs.OftenSent.{by_role, by_row, role_at}
-use Rattle.sip_conversation.proofs.RoundInputs.{Rises}
 
 -- ---- without a start nothing is held
 
-abbrev IsOther : Option Input → Type 0
+abbrev pub IsOther : Option Input → Type 0
 IsOther (Some (Start id call_id message to)) = ⊥
 IsOther _ = Unit {0}
 
-abbrev AreOthers : List (Timed Input) → Type 0
+abbrev pub AreOthers : List (Timed Input) → Type 0
 AreOthers [] = Unit {0}
 AreOthers (timed ∷ inputs) = IsOther timed.input × AreOthers inputs
 
@@ -70,7 +69,7 @@ module _ (invite : Bool) (key : Key) (own : role_of key ≡ role_at invite) (now
   received id message reply_to (start.Response status reason) =
       response invite id message reply_to (class_of status)
 
-  stays : (input : Option Input) → IsOther input
+  pub stays : (input : Option Input) → IsOther input
       → (stepped key None (record { moment = now; input = input })).0 ≡ None
   unfolding stepped step_for begun
   stays None other = refl
@@ -173,16 +172,3 @@ module _ (now : ℕ) (id : Id) (call_id : List ℕ) (request : Message) (to : Ad
   starts_first [] among = absurd (none_among a_start among)
   starts_first (timed ∷ inputs) among =
       step timed.moment timed.input inputs among (starts_first inputs)
-
-  -- so it comes no later
-  pub no_later : (before : List (Timed Input)) (first : Timed Input) (after : List (Timed Input))
-      → Rises (before ++ first ∷ after) → AreOthers before
-      → Contains (before ++ first ∷ after) a_start → first.moment ≤ now
-  no_later [] first after rises others among =
-      ⊎_elim (λ same. subst (λ (timed : Timed Input). first.moment ≤ timed.moment) same (omega arith))
-      (λ later. each_of (λ timed. first.moment ≤ timed.moment) after a_start rises.0 later)
-      (first_or_later first after a_start among)
-  no_later (one ∷ before) first after rises others among =
-      no_later before first after rises.1 others.1
-      (⊎_elim (λ same. absurd (not_it one.moment one.input others.0 same)) (λ later. later)
-      (first_or_later one (before ++ first ∷ after) a_start among))

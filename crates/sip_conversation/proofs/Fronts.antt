@@ -87,7 +87,7 @@ pub own_side : (s : Side) → is_side s s ≡ true
 own_side side.One = refl
 own_side side.Other = refl
 
-other_side : (s : Side) → is_side (peer s) s ≡ false
+pub other_side : (s : Side) → is_side (peer s) s ≡ false
 other_side side.One = refl
 other_side side.Other = refl
 

@@ -210,7 +210,7 @@ module _ (config : Config) (rounds : List Round)
           }
 
       abbrev IsOwnClient : Client → Type 0
-      IsOwnClient = Own calls.seed call_id (IsOrigin config rounds call_id) AnyCancel
+      IsOwnClient = Own calls.local calls.seed call_id (IsOrigin config rounds call_id) AnyCancel
 
       -- it is an INVITE
       pub invites : was.client.request.cseq.method ≡ codes "INVITE"

@@ -98,3 +98,7 @@ pub mod AskedArrive
 pub mod FirstStart
 pub mod Begun
 pub mod RequestsArrive
+pub mod WaitingClient
+pub mod AnsweringServer
+pub mod GivenAnswers
+pub mod AnswersArrive

@@ -35,7 +35,7 @@ use Rattle.sip_transactions.specs.declared.trigger.Trigger.{Trigger}
 use Rattle.sip_transactions.specs.declared.trigger.Trigger.TheVariants as on
 use Rattle.sip_transactions.specs.Rows.{row_of, rows_of}
 use Rattle.sip_transactions.specs.Rules.Timers.{interval}
-use Rattle.sip_transactions.specs.Steps.Input.{answer_of, arrival_of, class_of, is_same_method, role_of}
+use Rattle.sip_transactions.specs.Steps.Input.{answer_of, arrival_of, class_of, is_abandon, is_same_method, role_of, tick_of, trigger_of}
 use Rattle.sip_transactions.specs.Steps.Life.{acted_if, begun, context_of, life_after, state_of, step_for, step_machine, stepped}
 use Rattle.sip_transactions.specs.Steps.Output.{handed_out, made_of, outputs_of}
 use Rattle.sip_transactions.proofs.RowFacts.{by_test}
@@ -52,6 +52,23 @@ abbrev pub by_role : Role → Key → Option Life → ℕ → Option Input → O
     → Option Life × List Out
 by_role role key held now input trigger =
     by_row role key held now input (option_and_then (row_of (rows_of role) (state_of held)) trigger)
+
+pub to_role : (key : Key) (r : Role) → role_of key ≡ r → (held : Option Life) (now : ℕ)
+    (input : Option Input) → is_abandon input ≡ false
+    → stepped key held (record { moment = now; input = input })
+    ≡ by_role r key held now input (trigger_of held now input)
+unfolding stepped step_for
+to_role key r own held now None kept = ap (λ r. by_role r key held now None (tick_of now held)) own
+to_role key r own held now (Some (Receive id message reply_to)) kept =
+    ap (λ r. by_role r key held now (Some (Receive id message reply_to))
+    (Some (arrival_of message.start message.cseq.method))) own
+to_role key r own held now (Some (Start id call_id message to)) kept =
+    ap (λ r. by_role r key held now (Some (Start id call_id message to)) (Some on.Start)) own
+to_role key r own held now (Some (Answer id message)) kept =
+    ap (λ r. by_role r key held now (Some (Answer id message)) (answer_of message.start)) own
+to_role key r own held now (Some (Failed id)) kept =
+    ap (λ r. by_role r key held now (Some (Failed id)) (Some on.Failed)) own
+to_role key r own held now (Some Abandon) kept = absurd (false≢true (sym kept))
 
 -- the client of an INVITE, or of another request
 abbrev pub role_at : Bool → Role
@@ -236,7 +253,7 @@ unfolding begun life_after outputs_of made_of handed_out
 first_is true key now id call_id request to = refl
 first_is false key now id call_id request to = refl
 
-begins : (invite : Bool) (key : Key) → role_of key ≡ role_at invite → (now : ℕ) (id : Id)
+pub begins : (invite : Bool) (key : Key) → role_of key ≡ role_at invite → (now : ℕ) (id : Id)
     (call_id : List ℕ) (request : Message) (to : Addr)
     → stepped key None (given_at now (Start id call_id request to))
     ≡ first_of invite key now id call_id request to
@@ -276,7 +293,7 @@ same_address : (to : Addr) → is_address to to ≡ true
 same_address to = ap (λ b. b && (to.port == to.port)) (itself to.ip)
     ∙ (Decides-eqb to.port to.port).1 refl
 
-one_copy : (key : Key) (to : Addr) (text : List ℕ)
+pub one_copy : (key : Key) (to : Addr) (text : List ℕ)
     → copies to text (out.Send key to text ∷ []) ≡ 1
 one_copy key to text =
     ap (λ b. 0 + cond {A = ℕ} (b && bytes_eq text text) 1 0) (same_address to)

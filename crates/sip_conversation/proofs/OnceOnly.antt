@@ -28,13 +28,13 @@ module _ {X : Type 0} (name : X → Option Id) where
       (λ later. named_so P ys parts.1 x later id is)
       (first_or_later y ys x among)
 
-  distinct_later : (o : Option Id) (ids : List Id) → IsDistinct is_id (cons_option o ids)
+  pub distinct_later : (o : Option Id) (ids : List Id) → IsDistinct is_id (cons_option o ids)
       → IsDistinct is_id ids
   distinct_later None ids apart = apart
   distinct_later (Some id) ids apart = IsDistinct-tail is_id id ids apart
 
   -- an element of this id is none of those after the first, which has it
-  none_later : (y : X) (ys : List X) → IsDistinct is_id (filter_map name (y ∷ ys)) → (id : Id)
+  pub none_later : (y : X) (ys : List X) → IsDistinct is_id (filter_map name (y ∷ ys)) → (id : Id)
       → name y ≡ Some id → (x : X) → Contains ys x → name x ≡ Some id → ⊥
   none_later y ys apart id first x among is =
       false≢true (sym (named_so (λ other. is_id id other ≡ false) ys

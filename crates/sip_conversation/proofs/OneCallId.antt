@@ -33,7 +33,6 @@ use Rattle.sip_user.specs.declared.item.CallOut.TheVariants as call_out
 use Rattle.sip_user.specs.declared.item.Item.TheVariants.{Up, User}
 use Rattle.sip_served.specs.declared.arrival.Arrival.{Arrival}
 use Rattle.sip_clients.specs.Name.{hex, name_of, word_of_name}
-use Rattle.sip_clients.proofs.ClientAsks.{OutSays}
 use Rattle.sip_clients.proofs.Names.{names_differ}
 use Rattle.sip_calls.specs.Call.{CallItem, call_machine, call_step}
 use Rattle.sip_calls.specs.declared.call.Call.{Call}
@@ -53,7 +52,7 @@ use Rattle.sip_conversation.proofs.Among.{all_of, each_of}
 use Rattle.sip_conversation.proofs.Branches.{HasBranch, IsStarted}
 use Rattle.sip_conversation.proofs.Bridge.{any_arrival}
 use Rattle.sip_conversation.proofs.CallBranches.{AnyCancel, OutIsOwn, all_own, any_inputs}
-use Rattle.sip_conversation.proofs.CallSays.{AllGive, AnyAck, AnyCall, InputGives, UserGives, all_say}
+use Rattle.sip_conversation.proofs.CallSays.{AllGive, AnyAck, AnyCall, InputGives, OutGives, UserGives, all_say}
 use Rattle.sip_conversation.proofs.Longer.{says_longer}
 use Rattle.sip_conversation.proofs.OneStart.{calls_say, one_start, start_id, started_with}
 use Rattle.sip_conversation.proofs.Origins.{IsOrigin, counted, inputs_come, one_call}
@@ -117,8 +116,11 @@ Any arrival = Unit {0}
 abbrev IsReplyTo : Arrival → Message → Type 0
 IsReplyTo arrival response = IsReply response
 
+abbrev Replies : Id → Key → Message → Type 0
+Replies id key response = IsReply response
+
 is_reply : (arrival : Arrival) (response : Message) → IsReplyTo arrival response
-    → IsReply response
+    → Replies arrival.id arrival.key response
 is_reply arrival response is = is
 
 own_replies : OwnReplies Any IsReplyTo
@@ -132,7 +134,7 @@ own_replies = record {
 }
 
 user_gives : (outs : List CallOut) (command : UserCommand)
-    → UserGives Any IsReplyTo IsReply is_reply own_replies outs command
+    → UserGives Any IsReplyTo Replies is_reply own_replies outs command
 user_gives outs (user.Invite invite) = tt
 user_gives outs (user.Plain plain) = tt
 user_gives outs (user.Request request) = tt
@@ -154,13 +156,13 @@ kind_gives made up kind.Failed = tt
 
 module _ (calls : Calls) where
   input_gives : (outs : List CallOut) (i : Option CallItem)
-      → InputGives Any IsReplyTo IsReply is_reply own_replies calls outs i
+      → InputGives Any IsReplyTo Replies is_reply own_replies calls outs i
   input_gives outs None = tt
   input_gives outs (Some (event, Up up)) = kind_gives (name_of calls.seed event 0) up up.kind
   input_gives outs (Some (event, User command)) = user_gives outs command
 
   all_give : (state : Option Call) (inputs : List (Timed CallItem))
-      → AllGive Any IsReplyTo IsReply is_reply own_replies calls state inputs
+      → AllGive Any IsReplyTo Replies is_reply own_replies calls state inputs
   all_give state [] = tt
   all_give state (timed ∷ inputs) =
       let step = call_step calls state timed.input timed.moment in
@@ -169,12 +171,12 @@ module _ (calls : Calls) where
 module _ (config : Config)
     (alone : EachKeyAlone call_cmp (call_machine (calls_of config)) tick_at) where
   pub out_replies : (rounds : List Round) (out : CallOut) → CallSays config rounds out
-      → OutSays IsReply out
+      → OutGives Replies out
   out_replies rounds out says =
-      each_of (OutSays IsReply) (said_of_call config rounds says.0) out
-      (subst (AllByRecursion (OutSays IsReply))
+      each_of (OutGives Replies) (said_of_call config rounds says.0) out
+      (subst (AllByRecursion (OutGives Replies))
       (sym (call_alone (calls_of config) alone [] (past_of config rounds).calls says.0))
-      (all_say Any IsReplyTo IsReply is_reply own_replies (calls_of config) says.0 None
+      (all_say Any IsReplyTo Replies is_reply own_replies (calls_of config) says.0 None
       (call_inputs_of config rounds says.0)
       (all_give (calls_of config) None (call_inputs_of config rounds says.0)) tt))
       says.1
@@ -186,7 +188,7 @@ module _ (config : Config)
     -- a call starts a transaction with this request, which is of its own
     abbrev IsStartedBy : List ℕ → Id → Key → List ℕ → Message → Type 0
     IsStartedBy call_id =
-        IsStarted config.seed call_id (IsOrigin config rounds call_id) AnyCancel
+        IsStarted config.local config.seed call_id (IsOrigin config rounds call_id) AnyCancel
 
     -- what all calls give
     abbrev given_out : List CallOut
@@ -265,7 +267,7 @@ module _ (config : Config)
 
     abbrev IsBranch : List ℕ → List ℕ → Type 0
     IsBranch call_id =
-        HasBranch config.seed call_id (IsOrigin config rounds call_id) AnyCancel
+        HasBranch config.local config.seed call_id (IsOrigin config rounds call_id) AnyCancel
 
     -- branches that differ in no letter's case are of one event
     one_event : (call_id other : List ℕ) (one two : List ℕ) → (has : IsBranch call_id one)

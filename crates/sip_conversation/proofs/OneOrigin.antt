@@ -38,7 +38,7 @@ module _ (config : Config) (rounds : List Round)
     (alone : EachKeyAlone call_cmp (call_machine (calls_of config)) tick_at) where
   -- an event of this call made the branch
   abbrev pub IsBranch : List ℕ → List ℕ → Type 0
-  IsBranch call_id = HasBranch config.seed call_id (IsOrigin config rounds call_id) AnyCancel
+  IsBranch call_id = HasBranch config.local config.seed call_id (IsOrigin config rounds call_id) AnyCancel
 
   -- the message has the Call-ID of a call, and a branch that an event of the call made
   pub record IsOfCall (message : Message) : Type 0 where

@@ -355,7 +355,7 @@ module _ (Fact : DialogId → RAck → Type 0) where
           tt,
           no_requests
               (request_over client ((reply.status == 481) || (reply.status == 408)) dialogs).1
-              (over_silent [] [] (λ id. Unit {0}) (λ id request. Unit {0}) client
+              (over_silent client
               ((reply.status == 481) || (reply.status == 408)) dialogs),
         );
         prack = tt;
@@ -568,7 +568,7 @@ module _ (Fact : DialogId → RAck → Type 0) where
       found_or (λ (ended : Dialogs × List CallOut). Say ended.1) _
       (lookup (is_id id) side.clients) (side.dialogs, [])
       (λ client is. no_requests (request_over client timed_out side.dialogs).1
-      (over_silent [] [] (λ id. Unit {0}) (λ id request. Unit {0}) client timed_out side.dialogs))
+      (over_silent client timed_out side.dialogs))
       (λ none. tt)
 
   pub ack_racked : (event : Event) (command : DialogBody) (side : Side)

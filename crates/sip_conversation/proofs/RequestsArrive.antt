@@ -34,7 +34,7 @@ use Rattle.sip_conversation.specs.Messages.{CallSays, CallsKeepRules, IsGiven, c
 use Rattle.sip_conversation.specs.Replies.{AreCounted}
 use Rattle.sip_conversation.specs.Steps.Fair.{IsFair}
 use Rattle.sip_conversation.proofs.Among.{all_go, among_first, among_later, each_of}
-use Rattle.sip_conversation.proofs.Begun.{IsBegun, begun, by_now, first_now}
+use Rattle.sip_conversation.proofs.Begun.{IsBegun, begun}
 use Rattle.sip_conversation.proofs.ComesAt.{text_given}
 use Rattle.sip_conversation.proofs.CopiesSent.{later_copies, sent_at_least}
 use Rattle.sip_conversation.proofs.Fronts.{counted_front, front_carried, front_keeps}
@@ -390,14 +390,6 @@ module _ (configs : Side → Config) (fair : IsFair configs) (turns : List Turn)
 pub requests_arrive : (configs : Side → Config) (fair : IsFair configs) (turns : List Turn)
     → Carried configs turns → CallsKeepRules configs turns → RequestsArrive configs turns
 requests_arrive configs fair turns carried keep lag repeats delay clock runs delivers s branch
-    method now request no_cancel way few soon on =
-    let first = first_now configs fair turns clock s branch method now request no_cancel way few in
-    let from : first ≤ now =
-    by_now configs fair turns clock s branch method now request no_cancel way few in
-    let last = latest_repeat (pace_of method) lag repeats + delay in
-    let after : now + last < (on.0).moment = on.2 in
-    later_by configs turns s request (first + last) (now + last) (omega arith)
-    (arrives configs fair turns carried keep lag repeats delay clock runs delivers s branch method
-    first request no_cancel
-    (begun configs fair turns clock s branch method now request no_cancel way few) few soon
-    (on.0, on.1, omega (arith, after, from)))
+    method now request no_cancel way few =
+    arrives configs fair turns carried keep lag repeats delay clock runs delivers s branch method now
+    request no_cancel (begun configs fair turns s branch method now request no_cancel way few) few

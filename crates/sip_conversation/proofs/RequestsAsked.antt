@@ -169,7 +169,7 @@ module _ (config : Config) (rounds : List Round)
         let own = subst (HeldOwn calls call_id Came AnyCancel) held
         (held_own calls call_id Came AnyCancel None front come
         (any_inputs calls call_id Came None front) tt tt) in
-        let OwnRequest : Client → Type 0 = Own calls.seed call_id Came AnyCancel in
+        let OwnRequest : Client → Type 0 = Own calls.local calls.seed call_id Came AnyCancel in
         (subst (λ o. IfSome o OwnRequest) found
         (found_one OwnRequest (is_id id) call.clients own)).invites kind
 

@@ -7,7 +7,7 @@ use Rattle.std.specs.List.{flat_map}
 use Rattle.std.specs.Map.{lookup, set_value}
 use Rattle.std.specs.Option.{option_map_or}
 use Rattle.std.specs.Str.{bytes_eq}
-use Rattle.std.proofs.lemmas.List.Elements.{Contains-append_left, Contains-append_right}
+use Rattle.std.proofs.lemmas.List.Elements.{Contains-append_cases, Contains-append_left, Contains-append_right}
 use Rattle.std.proofs.lemmas.Slice.Eq.{bytes_eq-Decides}
 use Rattle.std.proofs.lemmas.Cmp.{nat_list_cmp_total}
 use Rattle.std.proofs.lemmas.Bool.{false≢true}
@@ -78,11 +78,12 @@ use Rattle.sip_round.proofs.AnswerParts.{answer_parts, sent_first}
 use Rattle.sip_round.proofs.GivenNotices.{calls_are, calls_from}
 use Rattle.sip_conversation.specs.GoOut.{GoesOut, IsRefused, RequestsGoOut}
 use Rattle.sip_conversation.specs.Requests.{request_asked_by}
-use Rattle.sip_conversation.specs.Messages.{CallSays}
+use Rattle.sip_conversation.specs.Messages.{CallSays, IsGiven}
 use Rattle.sip_conversation.proofs.Among.{among_first, among_kept, among_later, first_or_later, in_all_of, mapped_among, none_among}
 use Rattle.sip_conversation.proofs.ComesUp.{call_given, item_at}
 use Rattle.sip_conversation.proofs.RequestsAsked.{out_own}
-use Rattle.sip_conversation.proofs.Rounds.{transactions_are, transactions_from}
+use Rattle.sip_conversation.proofs.OneStart.{calls_say}
+use Rattle.sip_conversation.proofs.Rounds.{calls_give, transactions_are, transactions_from}
 use Rattle.sip_conversation.proofs.ToldOrAnswered.{lookup_set, notice_given}
 
 -- ---- by the rule
@@ -331,6 +332,44 @@ module _ (config : Config) (id : Id) (asked : Order) where
       (timed_items round.moment items) timed
       (mapped_among (timed_item round.moment) items item found.1)
       (is_at_itself keys_total (command_key asked)))
+
+  orders_given : (number : ℕ) (past : Past) (rounds : List Round)
+      → Contains (calls_give config number past rounds) (Command id asked) → (now : ℕ)
+      × Contains (history key_cmp tick_at (transactions_from config number past rounds)
+      (command_key asked)) (given_at now (asked_by id asked))
+  orders_given number past [] among = absurd (none_among (Command id asked) among)
+  orders_given number past (round ∷ rounds) among =
+      let next = past_after config number past round in
+      let one = own_inputs key_cmp tick_at (first config number past round) (command_key asked) in
+      let two = own_inputs key_cmp tick_at (third config number past round) (command_key asked) in
+      let rest = history key_cmp tick_at (transactions_from config (suc number) next rounds)
+      (command_key asked) in
+      ⊎_elim
+      (λ here. (
+        round.moment,
+        Contains-append_right one (two ++ rest) (given_at round.moment (asked_by id asked))
+            (Contains-append_left two rest (given_at round.moment (asked_by id asked))
+            (order_given number past round here)),
+      ))
+      (λ later. let found = orders_given (suc number) next rounds later in (
+        found.0,
+        Contains-append_right one (two ++ rest) (given_at found.0 (asked_by id asked))
+            (Contains-append_right two rest (given_at found.0 (asked_by id asked)) found.1),
+      ))
+      (Contains-append_cases (given_second config number past round)
+      (calls_give config (suc number) next rounds) (Command id asked) among)
+
+  pub asked_given : (rounds : List Round) → CallSays config rounds (Command id asked)
+      → IsGiven config rounds (command_key asked) (asked_by id asked)
+  unfolding past_of
+  asked_given rounds says =
+      let found = orders_given config.first no_past rounds
+      (calls_say config rounds (Command id asked) says) in (
+        found.0,
+        subst (λ phases. Contains (history key_cmp tick_at phases (command_key asked))
+            (given_at found.0 (asked_by id asked)))
+            (sym (transactions_are config config.first no_past rounds)) found.1,
+      )
 
 -- ---- the command is given to its call
 

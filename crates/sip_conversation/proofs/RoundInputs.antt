@@ -1,6 +1,6 @@
 -- The inputs of a transaction in rounds: those of the first rounds, and then those of the others,
 -- which begin with a tick; and the moments of each.
-use Rattle.std.proofs.Common.{◌≡◌, ℕ, suc, ◌+◌, ◌≤◌, arith, Bool, true, false, cond, List, [], ◌∷◌, ◌++◌, map, length, refl, sym, ap, ◌∙◌, subst}
+use Rattle.std.proofs.Common.{◌≡◌, ℕ, suc, ◌+◌, Bool, true, false, cond, List, [], ◌∷◌, ◌++◌, map, length, refl, sym, ap, ◌∙◌, subst}
 use Rattle.std.specs.Prelude.{filter}
 use Rattle.std.specs.BTreeMap.{is_at}
 use Rattle.std.specs.List.{AllByRecursion, flat_map}
@@ -9,7 +9,7 @@ use Rattle.sip_message.specs.declared.key.Key.{Key}
 use Rattle.sip_message.specs.Key.{key_cmp}
 use Rattle.keyed_machine.specs.declared.item.Item as model
 use Rattle.keyed_machine.specs.Machine.{Timed, given_at, tick_at}
-use Rattle.keyed_machine.specs.Phase.{Phase, history, own_inputs, timed_items}
+use Rattle.keyed_machine.specs.Phase.{history, own_inputs, timed_items}
 use Rattle.keyed_machine.specs.Phase as phase
 use Rattle.sip_transactions.specs.declared.input.Input.{Input}
 use Rattle.sip_held_dialogs.proofs.Each.{both}
@@ -20,34 +20,7 @@ use Rattle.sip_round.specs.Laws.{inputs_of}
 use Rattle.sip_round.specs.Outputs.{command_of}
 use Rattle.sip_round.specs.Phases.{command_items, transaction_items}
 use Rattle.sip_round.proofs.Runs.{past_from-append}
-use Rattle.sip_conversation.proofs.Among.{all_go}
 use Rattle.sip_conversation.proofs.Rounds.{transactions_are, transactions_from}
-
--- the moments of these inputs don't fall, nor do those of these rounds
-abbrev pub Rises : List (Timed Input) → Type 0
-Rises [] = Unit {0}
-Rises (timed ∷ inputs) =
-    AllByRecursion (λ later. timed.moment ≤ later.moment) inputs × Rises inputs
-
-abbrev pub RoundsRise : List Round → Type 0
-RoundsRise [] = Unit {0}
-RoundsRise (round ∷ rounds) =
-    AllByRecursion (λ later. round.moment ≤ later.moment) rounds × RoundsRise rounds
-
--- inputs at one moment, and then others at that moment or later
-level : (now : ℕ) (here later : List (Timed Input))
-    → AllByRecursion (λ timed. timed.moment ≡ now) here
-    → AllByRecursion (λ timed. now ≤ timed.moment) later → Rises later → Rises (here ++ later)
-level now [] later at after rises = rises
-level now (timed ∷ here) later at after rises = (
-  both (λ t. timed.moment ≤ t.moment) here later
-      (all_go {P = λ t. t.moment ≡ now} {Q = λ t. timed.moment ≤ t.moment}
-      (λ t is. subst (λ m. m ≤ t.moment) (sym at.0) (subst (λ m. now ≤ m) (sym is) (omega arith)))
-      here at.1)
-      (all_go {P = λ t. now ≤ t.moment} {Q = λ t. timed.moment ≤ t.moment}
-      (λ t from. subst (λ m. m ≤ t.moment) (sym at.0) from) later after),
-  level now here later at.1 after rises,
-)
 
 module _ (config : Config) (key : Key) where
   -- what comes in rounds after others
@@ -149,30 +122,3 @@ module _ (config : Config) (key : Key) where
         → AllByRecursion AtMoment (inputs_after rounds more)
     inputs_after_at rounds more at =
         from_at (config.first + length rounds) (past_from config config.first no_past rounds) more at
-
-  -- ---- in rounds whose moments don't fall
-
-  rise_from : (number : ℕ) (past : Past) (rounds : List Round) → RoundsRise rounds
-      → Rises (from number past rounds)
-  rise_from number past [] rise = tt
-  rise_from number past (round ∷ rounds) rise =
-      let next = past_after config number past round in
-      let one = own_inputs key_cmp tick_at (first config number past round) key in
-      let two = own_inputs key_cmp tick_at (third config number past round) key in
-      let rest = from (suc number) next rounds in
-      let now = round.moment in
-      let later = from_at (λ m. now ≤ m) (suc number) next rounds rise.0 in
-      let at_two = third_at (λ m. m ≡ now) number past round refl in
-      level now one (two ++ rest) (first_at (λ m. m ≡ now) number past round refl)
-      (both (λ t. now ≤ t.moment) two rest
-      (all_go {P = λ t. t.moment ≡ now} {Q = λ t. now ≤ t.moment}
-      (λ t is. subst (λ m. now ≤ m) (sym is) (omega arith)) two at_two) later)
-      (level now two rest at_two later (rise_from (suc number) next rounds rise.1))
-
-  pub inputs_rise : (rounds : List Round) → RoundsRise rounds
-      → Rises (inputs_of config rounds key)
-  unfolding past_of
-  inputs_rise rounds rise =
-      subst (λ phases. Rises (history key_cmp tick_at phases key))
-      (sym (transactions_are config config.first no_past rounds))
-      (rise_from config.first no_past rounds rise)

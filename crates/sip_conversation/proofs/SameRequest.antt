@@ -56,12 +56,12 @@ use Rattle.sip_conversation.proofs.UpMethods.{HasMethod}
 -- ---- the key of a request other than ACK
 
 -- its branch and its method
-record HasKeyOf (message : Message) (key : Key) : Type 0 where
-  server : IsServer key
-  branch : branch_in key ≡ lower (top_branch message)
-  method : method_in key ≡ message.cseq.method
+pub record HasKeyOf (message : Message) (key : Key) : Type 0 where
+  pub server : IsServer key
+  pub branch : branch_in key ≡ lower (top_branch message)
+  pub method : method_in key ≡ message.cseq.method
 
-not_ack : (method : List ℕ) → (method ≡ codes "ACK" → ⊥) → bytes_eq method (codes "ACK") ≡ false
+pub not_ack : (method : List ℕ) → (method ≡ codes "ACK" → ⊥) → bytes_eq method (codes "ACK") ≡ false
 not_ack method other =
     by_bool (bytes_eq method (codes "ACK"))
     (λ ack. absurd (other ((bytes_eq-Decides method (codes "ACK")).0 ack)))
@@ -82,7 +82,7 @@ parts_of message (start.Request uri) host port asks other = record {
 }
 parts_of message (start.Response status reason) host port asks other = absurd (false≢true asks)
 
-key_parts : (message : Message) → is_request_message message ≡ true
+pub key_parts : (message : Message) → is_request_message message ≡ true
     → (message.cseq.method ≡ codes "ACK" → ⊥) → HasKeyOf message (key_of_message message)
 unfolding key_of_message
 key_parts message asks other =
@@ -116,47 +116,62 @@ module _ (configs : Side → Config) (fair : IsFair configs) (turns : List Turn)
     abbrev as_it_comes : Message
     as_it_comes = come_from source request
 
-    no_ack : request.cseq.method ≡ codes "ACK" → ⊥
+    pub no_ack : request.cseq.method ≡ codes "ACK" → ⊥
     no_ack = (out_own (configs s) (rounds_of s turns) (fair.calls s)
         (call_out.Command id (order.Start own of request to)) says).own.method
 
     started : IsStartedHere (configs s) (rounds_of s turns) (fair.calls s) request
     started = record { id = id; key = own; at = of; to = to; says = says }
 
-    comes_asking : is_request_message as_it_comes ≡ true
+    pub comes_asking : is_request_message as_it_comes ≡ true
     unfolding stamped
     comes_asking =
         ap (λ b. is_request_message (if b then stamped request source else request)) asks ∙ asks
 
-    stamped_same : IsSame as_it_comes request
+    pub stamped_same : IsSame as_it_comes request
     stamped_same = came_same source as_it_comes request refl comes_asking
 
-    -- a request with the same key is the same
-    same_request : (message : Message) → ComesUnchanged configs turns other message
+    -- a request with the same branch and method is the same
+    pub same_branch : (message : Message) (comes : ComesUnchanged configs turns other message)
         → is_request_message message ≡ true → (message.cseq.method ≡ codes "ACK" → ⊥)
-        → key_of_message message ≡ key_of_message as_it_comes → message ≡ as_it_comes
-    same_request message comes is plain keys =
+        → lower (top_branch message) ≡ lower (top_branch request)
+        → message.cseq.method ≡ request.cseq.method → comes.original ≡ request
+    same_branch message comes is plain branches methods =
         let asked : Message = comes.original in
         let same : IsSame message asked =
         came_same (configs (peer other)).local message asked comes.same is in
         let spoken : IsSaid (configs s) (rounds_of s turns) asked =
         subst (λ p. IsSaid (configs p) (rounds_of p turns) asked) (peer_peer s) comes.said in
-        let there = key_parts message is plain in
-        let here = key_parts as_it_comes comes_asking
-        (λ ack. no_ack (sym stamped_same.method ∙ ack)) in
-        let methods : asked.cseq.method ≡ request.cseq.method =
-        sym same.method ∙ (sym there.method ∙ (ap method_in keys
-        ∙ (here.method ∙ stamped_same.method))) in
-        let branches : lower (top_branch asked) ≡ lower (top_branch request) =
-        ap lower (sym same.branch) ∙ (sym there.branch ∙ (ap branch_in keys
-        ∙ (here.branch ∙ ap lower stamped_same.branch))) in
-        let one : asked ≡ request =
         one_request (configs s) (rounds_of s turns) (fair.calls s) few asked request
         (said_starts (configs s) (rounds_of s turns) (fair.calls s) asked spoken comes.rules same.asks
         (λ ack. plain (same.method ∙ ack)))
-        started (λ cancel. no_cancel (sym methods ∙ cancel)) no_cancel branches in
-        comes.same ∙ (ap (λ p. come_from (configs p).local asked) (peer_peer s)
+        started (λ cancel. no_cancel (sym methods ∙ (same.method ∙ cancel))) no_cancel
+        (ap lower (sym same.branch) ∙ branches)
+
+    -- it comes as this does
+    pub as_this : (message : Message) (comes : ComesUnchanged configs turns other message)
+        → comes.original ≡ request → message ≡ as_it_comes
+    as_this message comes one =
+        comes.same ∙ (ap (λ p. come_from (configs p).local comes.original) (peer_peer s)
         ∙ ap (come_from source) one)
+
+    -- a request with the same key is the same
+    pub same_original : (message : Message) (comes : ComesUnchanged configs turns other message)
+        → is_request_message message ≡ true → (message.cseq.method ≡ codes "ACK" → ⊥)
+        → key_of_message message ≡ key_of_message as_it_comes → comes.original ≡ request
+    same_original message comes is plain keys =
+        let there = key_parts message is plain in
+        let here = key_parts as_it_comes comes_asking
+        (λ ack. no_ack (sym stamped_same.method ∙ ack)) in
+        same_branch message comes is plain
+        (sym there.branch ∙ (ap branch_in keys ∙ (here.branch ∙ ap lower stamped_same.branch)))
+        (sym there.method ∙ (ap method_in keys ∙ (here.method ∙ stamped_same.method)))
+
+    pub same_request : (message : Message) → ComesUnchanged configs turns other message
+        → is_request_message message ≡ true → (message.cseq.method ≡ codes "ACK" → ⊥)
+        → key_of_message message ≡ key_of_message as_it_comes → message ≡ as_it_comes
+    same_request message comes is plain keys =
+        as_this message comes (same_original message comes is plain keys)
 
     pub record IsUp : Type 0 where
       pub up : AnUp

@@ -243,10 +243,10 @@ module _ (configs : Side → Config) (fair : IsFair configs) (before : List Turn
             sends = early.sends;
           }
 
-      its : Own here.seed call_id (IsOrigin here rounds_here call_id) AnyCancel reply.client
+      its : Own here.local here.seed call_id (IsOrigin here rounds_here call_id) AnyCancel reply.client
       its =
           let CameHere = IsOrigin here rounds_here call_id in
-          let IsOwnClient = Own here.seed call_id CameHere AnyCancel in
+          let IsOwnClient = Own here.local here.seed call_id CameHere AnyCancel in
           let TimedIs : Timed CallItem → Type 0 = λ timed.
           InputComes (calls_of here) call_id CameHere AnyCancel timed.input in
           let parts = all_of_parts TimedIs at.before (at.timed ∷ at.after)
@@ -258,11 +258,11 @@ module _ (configs : Side → Config) (fair : IsFair configs) (before : List Turn
           by_state : (state : Option Call)
               → HeldOwn (calls_of here) call_id (IsOrigin here rounds_here call_id) AnyCancel state
               → client_at reply.up.id (side_held state).clients ≡ Some reply.client
-              → Own here.seed call_id (IsOrigin here rounds_here call_id) AnyCancel reply.client
+              → Own here.local here.seed call_id (IsOrigin here rounds_here call_id) AnyCancel reply.client
           by_state None own held = absurd cc
           by_state (Some call) own held =
               let IsOwnClient =
-              Own here.seed call_id (IsOrigin here rounds_here call_id) AnyCancel in
+              Own here.local here.seed call_id (IsOrigin here rounds_here call_id) AnyCancel in
               subst (λ o. IfSome o IsOwnClient) held
               (found_one IsOwnClient (is_id reply.up.id) call.clients own)
 

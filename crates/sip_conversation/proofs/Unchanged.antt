@@ -44,7 +44,7 @@ use Rattle.sip_conversation.specs.Datagrams.{IsTextSaid}
 use Rattle.sip_conversation.specs.Messages.{CallSays, CallsKeepRules, ComesUnchanged, ComesUp, IsGiven, IsSaid, KeepsRules, come_from, message_up}
 use Rattle.sip_conversation.specs.Messages.IsSaid.{Acknowledges, Asked, Direct, Trying}
 use Rattle.sip_conversation.proofs.Among.{all_go, all_of, each_of}
-use Rattle.sip_conversation.proofs.Bridge.{read_or_long, text_fits}
+use Rattle.sip_conversation.proofs.Bridge.{answered_to, read_or_long, text_fits}
 use Rattle.sip_conversation.proofs.Carrying.{TurnHolds, all_carried, each_turn, in_rounds}
 use Rattle.sip_conversation.proofs.Fronts.{front_keeps}
 use Rattle.sip_conversation.proofs.OneTransaction.{AreSaid, IsFaithful, IsTextOf, KindCame, faithful}
@@ -191,7 +191,7 @@ module _ (alone : EachKeyAlone key_cmp transaction_machine tick_at) where
     fine_sound turns s (event.Datagram from bytes) fine id =
         text_fits (configs s) (IsSoundInput (configs s) (rounds_of s turns)) id from fine.1 bytes
         fine.2 fine.3
-        (λ short reply_to. come_keeps from (subst IsAddr (sym fine.0) (addresses (peer s))) fine.1
+        (λ short. come_keeps from (subst IsAddr (sym fine.0) (addresses (peer s))) fine.1
         fine.3)
     fine_sound turns s (event.Failed key) fine id = tt
     fine_sound turns s (event.Command c) fine id = tt
@@ -231,9 +231,16 @@ module _ (alone : EachKeyAlone key_cmp transaction_machine tick_at) where
 
     -- ---- what comes
 
+    -- a message comes unchanged, and the answer to it goes to the address from which it came, or
+    -- that its Via names
+    pub record ComesBack (turns : List Turn) (s : Side) (message : Message) (reply_to : Addr)
+        : Type 0 where
+      pub comes : ComesUnchanged configs turns s message
+      pub back : reply_to ≡ answered_to (configs (peer s)).local comes.original
+
     abbrev IsUnchanged : List Turn → Side → Key → Input → Type 0
     IsUnchanged turns s key (input.Receive id message reply_to) =
-        ComesUnchanged configs turns s message
+        ComesBack turns s message reply_to
     IsUnchanged turns s key (input.Start id call_id message to) = Unit {0}
     IsUnchanged turns s key (input.Answer id message) = Unit {0}
     IsUnchanged turns s key (input.Failed id) = Unit {0}
@@ -250,13 +257,16 @@ module _ (alone : EachKeyAlone key_cmp transaction_machine tick_at) where
         let text = texts turns fine keep (peer s) (carried.1).0 (carried.1).1 bytes
         (carried.1).2 in
         text_fits (configs s) (IsUnchanged turns s) id from text.0 bytes text.1 (text.2).0
-        (λ short reply_to. record {
-          original = text.0;
-          said = (text.2).1;
-          sent = subst (WasSent configs turns s) text.1 carried.1;
-          rules = (text.2).0;
-          short = short;
-          same = ap (λ source. come_from source text.0) carried.0;
+        (λ short. record {
+          comes = record {
+            original = text.0;
+            said = (text.2).1;
+            sent = subst (WasSent configs turns s) text.1 carried.1;
+            rules = (text.2).0;
+            short = short;
+            same = ap (λ source. come_from source text.0) carried.0;
+          };
+          back = ap (λ source. answered_to source text.0) carried.0;
         })
     carried_unchanged turns fine keep s (event.Failed key) carried id = tt
     carried_unchanged turns fine keep s (event.Command c) carried id = tt
@@ -273,12 +283,12 @@ module _ (alone : EachKeyAlone key_cmp transaction_machine tick_at) where
     out_unchanged turns s (call_out.Command id c) = command_unchanged turns s id c
     out_unchanged turns s (call_out.Direct to bytes) = tt
 
-    pub messages_unchanged : (turns : List Turn) → Carried configs turns
+    pub messages_back : (turns : List Turn) → Carried configs turns
         → CallsKeepRules configs turns
         → (s : Side) (key : Key) (id : Id) (message : Message) (reply_to : Addr)
         → IsGiven (configs s) (rounds_of s turns) key (input.Receive id message reply_to)
-        → ComesUnchanged configs turns s message
-    messages_unchanged turns carried keep s key id message reply_to given =
+        → ComesBack turns s message reply_to
+    messages_back turns carried keep s key id message reply_to given =
         let fine = fine_after [] turns tt carried keep in
         let rounds = rounds_of s turns in
         each_of (TimedFits (configs s) (IsUnchanged turns s) key)
@@ -291,6 +301,25 @@ module _ (alone : EachKeyAlone key_cmp transaction_machine tick_at) where
         (all_of (OutFits (configs s) (IsUnchanged turns s))
         (calls_give (configs s) (configs s).first no_past rounds)
         (λ out among. out_unchanged turns s out))) given.1
+
+    pub messages_unchanged : (turns : List Turn) → Carried configs turns
+        → CallsKeepRules configs turns
+        → (s : Side) (key : Key) (id : Id) (message : Message) (reply_to : Addr)
+        → IsGiven (configs s) (rounds_of s turns) key (input.Receive id message reply_to)
+        → ComesUnchanged configs turns s message
+    messages_unchanged turns carried keep s key id message reply_to given =
+        (messages_back turns carried keep s key id message reply_to given).comes
+
+    -- what a side is asked to send, and what comes to it and is sent on, keeps the rules
+    pub what_is_said : (turns : List Turn) → Carried configs turns → CallsKeepRules configs turns
+        → (s : Side) (key : Key)
+        → AreSaid (inputs_of (configs s) (rounds_of s turns) key)
+        (Says (configs s) (rounds_of s turns)) IsMessage
+    what_is_said turns carried keep s key =
+        said (configs s) (rounds_of s turns) (keep s)
+        (in_rounds (ArrivesSound turns) s turns
+        (each_turn {P = IsFine} {Q = ArrivesSound turns} (fine_sound turns) turns
+        (fine_after [] turns tt carried keep))) key
 
     -- ---- datagrams
 

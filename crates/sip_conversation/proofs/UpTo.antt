@@ -16,7 +16,6 @@ use Rattle.sip_conversation.specs.Copies.{TicksInTime}
 use Rattle.sip_conversation.specs.Delivery.{ShareAClock}
 use Rattle.sip_conversation.proofs.Fronts.{own_side}
 use Rattle.sip_conversation.proofs.OftenSent.{or_false}
-use Rattle.sip_conversation.proofs.RoundInputs.{RoundsRise}
 use Rattle.sip_conversation.proofs.Among.{all_go, among_first, among_kept, among_later, among_mapped, first_or_later, kept_among, mapped_among, none_among}
 
 -- ---- turns
@@ -77,22 +76,6 @@ module _ (P : ℕ → Type 0) (s : Side) where
   rounds_at (turn ∷ turns) at =
       kept_at (is_side s turn.side) turn (filter (λ t. is_side s t.side) turns) at.0
       (rounds_at turns at.1)
-
-module _ (s : Side) where
-  kept_rise : (own : Bool) (turn : Turn) (kept : List Turn)
-      → AllByRecursion (λ (later : Round). (turn.round).moment ≤ later.moment)
-      (map (λ (t : Turn). t.round) kept)
-      → RoundsRise (map (λ (t : Turn). t.round) kept)
-      → RoundsRise (map (λ (t : Turn). t.round) (cond own (turn ∷ kept) kept))
-  kept_rise true turn kept later rise = (later, rise)
-  kept_rise false turn kept later rise = rise
-
-  -- so the moments of a side's rounds don't fall
-  pub rounds_rise : (turns : List Turn) → ShareAClock turns → RoundsRise (rounds_of s turns)
-  rounds_rise [] clock = tt
-  rounds_rise (turn ∷ turns) clock =
-      kept_rise (is_side s turn.side) turn (filter (λ t. is_side s t.side) turns)
-      (rounds_at (λ m. (turn.round).moment ≤ m) s turns clock.0) (rounds_rise turns clock.1)
 
 pub own_round : (s : Side) (turns : List Turn) (turn : Turn) → Contains turns turn
     → turn.side ≡ s → Contains (rounds_of s turns) turn.round

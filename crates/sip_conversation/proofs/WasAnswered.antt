@@ -99,7 +99,7 @@ module _ (configs : Side → Config) (fair : IsFair configs) (turns : List Turn)
   GivenThere message = (key : Key) × (id : Id) × (reply_to : Addr)
       × IsGiven (configs other) (rounds_of other turns) key (input.Receive id message reply_to)
 
-  abbrev Came : Message → Type 0
+  abbrev pub Came : Message → Type 0
   Came message = ComesUnchanged configs turns other message × GivenThere message
 
   abbrev Any : Message → Type 0
@@ -137,7 +137,7 @@ module _ (configs : Side → Config) (fair : IsFair configs) (turns : List Turn)
         came = λ now id message reply_to among. came key id message reply_to (now, among);
       }) key))
 
-  all_came : AllCame (configs other) (rounds_of other turns) Came
+  pub all_came : AllCame (configs other) (rounds_of other turns) Came
   all_came = record {
     calls = inputs_came (UpCame Came) (configs other) (rounds_of other turns) ups;
     transactions = came;

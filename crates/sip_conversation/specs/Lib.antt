@@ -15,4 +15,5 @@ pub mod ToldPracks
 pub mod Copies
 pub mod Delivery
 pub mod GoOut
+pub mod AnswersArrive
 pub mod Steps

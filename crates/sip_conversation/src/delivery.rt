@@ -2,6 +2,7 @@
 
 ghost use Rattle.std.specs.Prelude.{List};
 ghost use Rattle.sip_transactions.specs.Machine.{transaction_machine};
+ghost use Rattle.sip_conversation.specs.AnswersArrive.{AnswersArrive};
 ghost use Rattle.sip_conversation.specs.GoOut.{AskedArrive, RequestsGoOut};
 ghost use Rattle.sip_conversation.specs.Commands.{CommandsKeepTypes};
 ghost use Rattle.sip_conversation.specs.Conversation.{Carried, Turn, of_sides};
@@ -70,6 +71,28 @@ pub fn what_is_asked_for_arrives(one: Config, other: Config)
     ensures { (turns : List Turn) → Carried (of_sides one other) turns
         → CommandsKeepTypes turns
         → AskedArrive (of_sides one other) turns }
+{
+    sides_are_fair(&one, &other);
+}
+
+/// Over such a network a final response arrives, too. A side has sent a request to the other one:
+/// no INVITE, no CANCEL and no PRACK. There the transaction of the request is given a final
+/// response, the first one. It is sent then, and again at each repeat of the request that comes.
+/// Then the application that asked for the request is told of a response, under the Call-ID of the
+/// call and the id of its command: with the status, the tags and the body of that one. That holds
+/// unless it gives the request up, or a send of it is reported to have failed.
+///
+/// The time for that, from the response on, depends on how many copies of a datagram it takes until
+/// one comes. If each comes, that is the delay. If one of two does, it is 8 s and twice the lag and
+/// the delay: time for two repeats of the request, of which one comes, and for the second copy of
+/// the response. If one of three does, it is 24 s, 6 lags and 3 delays. This is said if that ends
+/// before timer F fires, so if the other side responds so much earlier than 64*T1 after the request
+/// was sent. The response has at most 65,507 bytes. If the other side responds later, or the one
+/// that waits runs no round after that time, nothing is said.
+pub fn answers_arrive(one: Config, other: Config)
+    ensures { (turns : List Turn) → Carried (of_sides one other) turns
+        → CommandsKeepTypes turns
+        → AnswersArrive (of_sides one other) turns }
 {
     sides_are_fair(&one, &other);
 }

@@ -1,17 +1,15 @@
--- The application is told of an outcome of each request that isn't given up.
-use Rattle.std.proofs.Common.{◌≡◌, ◌⊎◌, inl, inr, ⊎_elim, ℕ, suc, ◌+◌, ◌*◌, ◌≤◌, Bool, true, false, cond, ◌||◌, List, [], ◌∷◌, ◌++◌, map, refl, sym, ap, ◌∙◌, append_assoc, append-nil, subst, arith}
+-- A round in which a request waits for its outcome: it goes on, or the application is told.
+use Rattle.std.proofs.Common.{◌≡◌, ◌⊎◌, inl, inr, ⊎_elim, ℕ, suc, ◌≤◌, Bool, true, false, cond, ◌||◌, List, [], ◌∷◌, ◌++◌, map, refl, sym, ap, ◌∙◌, append_assoc, append-nil, subst}
 use Rattle.std.specs.Prelude.{Option, None, Some, IsSome, codes, count_by, filter, nat_le}
 use Rattle.std.specs.BTreeMap.{is_at}
 use Rattle.std.specs.List.{AllByRecursion, flat_map, list_any}
 use Rattle.std.proofs.lemmas.Bool.{false≢true}
 use Rattle.std.proofs.lemmas.Grind.{flat_map-append}
-use Rattle.std.proofs.lemmas.List.Sums.{sum_by-cons}
 use Rattle.sip_message.specs.Keys.{exact_keys}
 use Rattle.sip_message.specs.Key.{key_cmp, keys_total, method_in}
 use Rattle.sip_message.specs.declared.id.Id.{Id}
 use Rattle.sip_message.specs.declared.key.Key.{Key}
 use Rattle.sip_message.specs.declared.key.Key.TheVariants as key
-use Rattle.sip_timers.specs.declared.estimate.TheConstants.{LIFETIME, T1}
 use Rattle.keyed_machine.specs.declared.item.Item as model
 use Rattle.keyed_machine.specs.Groups.{speaks}
 use Rattle.keyed_machine.specs.Machine.{Timed, adds, tick_at}
@@ -34,6 +32,7 @@ use Rattle.sip_user.specs.declared.item.CallOut.{CallOut}
 use Rattle.sip_user.specs.declared.item.CallOut.TheVariants as call_out
 use Rattle.sip_user.specs.declared.item.Item.{Item}
 use Rattle.sip_user.specs.declared.item.Item.TheVariants.{Up}
+use Rattle.sip_user.specs.declared.notice.Notice.{Notice}
 use Rattle.sip_clients.specs.Rules.Requests.{has_command}
 use Rattle.sip_calls.specs.OwnCall.{IsCallOf}
 use Rattle.sip_calls.specs.Provisionals.{side_held}
@@ -41,30 +40,27 @@ use Rattle.sip_held_dialogs.proofs.Starts.{starts}
 use Rattle.sip_calls.proofs.CallStarts.{how_many, ids_of}
 use Rattle.sip_calls.proofs.OwnCall.{each_notice_is_own}
 use Rattle.sip_round.specs.declared.config.Config.{Config}
-use Rattle.sip_round.specs.declared.output.Output.{Output}
 use Rattle.sip_round.specs.declared.output.Output.TheVariants as output
 use Rattle.sip_round.specs.declared.round.Round.{Round}
-use Rattle.sip_round.specs.Answers.{Past, answer, answers, arrivals, calls_of, each_from, first, given_second, items_of_round, no_past, past_after, past_from, past_of, said_by_transactions, third}
-use Rattle.sip_round.specs.Given.{all_given}
+use Rattle.sip_round.specs.Answers.{Past, answer, arrivals, calls_of, each_from, first, given_second, items_of_round, past_after, past_from, said_by_transactions, third}
 use Rattle.sip_round.specs.Outputs.{all_said, call_outputs, joined, sent_of, raised_of}
 use Rattle.sip_round.specs.Phases.{command_items}
 use Rattle.sip_round.proofs.AnswerParts.{answer_parts, sent_first}
-use Rattle.sip_agent_laws.specs.Agents.AtRest.{reaches}
 use Rattle.sip_agent_laws.specs.Transactions.Outcomes.{is_outcome}
-use Rattle.sip_agent_laws.specs.Agents.Outcomes.{Sends, is_given_up, outcomes_told, tells_outcome}
+use Rattle.sip_agent_laws.specs.Agents.Outcomes.{Causes}
 use Rattle.sip_agent_laws.proofs.agents.ClientsHeld.{Abandons, Holds, IsCommanded, is_invite_key}
 use Rattle.sip_agent_laws.proofs.agents.Apart.{starts_from}
 use Rattle.sip_agent_laws.proofs.agents.CallHeld.{tick_asked}
 use Rattle.sip_agent_laws.proofs.agents.Commands.{IsAbandonOf}
 use Rattle.sip_agent_laws.proofs.agents.EndTold.{IsTold, items_told, told_right}
-use Rattle.sip_agent_laws.proofs.agents.Going.{GoesOn, HandsUp, IsGoing, IsNew, ends_ticked, goes_run, going_new, items_then, new_run, none_at, none_then, ticked}
+use Rattle.sip_agent_laws.proofs.agents.Going.{GoesOn, HandsUp, IsGoing, OwnCame, ends_ticked, goes_run, items_then, ticked}
 use Rattle.sip_agent_laws.proofs.agents.Items.{item_given, requests_among, up_among}
 use Rattle.sip_agent_laws.proofs.agents.Linked.{IsLinked, after_is, calls_in, calls_ticked, came_in, first_items, first_ticks, given, given_is, items, items_are, lives_between, lives_in, lives_ticked, no_events, second_items, second_own_items, second_ticks, starts_are}
-use Rattle.sip_agent_laws.proofs.agents.LinkedRounds.{IsFair, all_fair, fair_next, linked_next, nothing_linked}
+use Rattle.sip_agent_laws.proofs.agents.LinkedRounds.{IsFair, fair_next, linked_next}
 use Rattle.sip_agent_laws.proofs.agents.Lists.{Among, among_flat, among_kept, among_left, among_mapped, among_right}
 use Rattle.sip_agent_laws.proofs.agents.OpenLives.{is_server}
 use Rattle.sip_agent_laws.proofs.agents.SecondPhase.{fewer_counted, no_abandon, orders, says}
-use Rattle.sip_agent_laws.proofs.transactions.Inputs.{HeldIn}
+use Rattle.sip_agent_laws.proofs.calls.OneTold.{brings_outcome}
 
 -- ---- the transaction of a command
 
@@ -220,26 +216,51 @@ module _ (config : Config) (number : ℕ) (past : Past) (round : Round) where
             (raised_up zero (joined (first_ticks config number past round)) up there)),
       )
 
+  -- of these own inputs of a transaction this is true
+  pub record RoundCame (k : Key) (Came : Timed Input → Type 0) : Type 0 where
+    pub tick : Came (tick_at now_at)
+    pub items : OwnCame k Came (first_items config number past round)
+
+  -- the user is told of the outcome that such an input brings about
+  pub record TellsOutcome (id : Id) (call_id : List ℕ) (end : ℕ) (Came : Timed Input → Type 0)
+      : Type 0 where
+    pub up : AnUp
+    pub told : IsTold up (given config number past round)
+    pub id_is : up.id ≡ id
+    pub call_is : up.call_id ≡ call_id
+    pub outcome : is_outcome up.kind ≡ true
+    pub cause : Timed Input
+    pub came : Came cause
+    pub causes : Causes end cause up.kind
+
+  -- how many of the items of its calls bring an outcome of this request
+  abbrev pub brought : Id → ℕ
+  brought id = count_by (λ item. brings_outcome id item.input.input)
+      (second_items config number past round)
+
   module _ (rounds : List Round) (said : List (Id × Key)) (came : List Id)
       (fair : IsFair config number past (round ∷ rounds) said came)
       (linked : IsLinked config past said came) (k : Key) (client : role_of k ≡ role.Client)
-      (commanded : IsCommanded k) (id : Id) (call_id : List ℕ) (end : ℕ) where
+      (commanded : IsCommanded k) (id : Id) (call_id : List ℕ) (end : ℕ)
+      (Came : Timed Input → Type 0) where
     abbrev Goes : Option Life → Type 0
-    Goes held = GoesOn k client id call_id end held
+    Goes held = GoesOn k client id call_id end Came held
 
-    abbrev Hands : List Out → Type 0
-    Hands outs = HandsUp k id call_id outs
+    abbrev TellsHere : Type 0
+    TellsHere = TellsOutcome id call_id end Came
 
     serves : is_server (role_of k) ≡ false
     serves = ap is_server client
 
     -- what comes up is told, since its call holds the request
-    up_told : (life : Life) → lives_in past k ≡ Some life → IsGoing k client id call_id end life
-        → AreKept k (orders (given config number past round)) → (up : AnUp) → up.id ≡ id
+    up_told : (life : Life) → lives_in past k ≡ Some life
+        → IsGoing k client id call_id end Came life
+        → AreKept k (orders (given config number past round)) → brought id ≤ 1
+        → (up : AnUp) → up.id ≡ id
         → up.call_id ≡ call_id → is_outcome up.kind ≡ true → (event : Id)
         → Among (items config number past round) (event, Up up)
-        → IsTold id (given config number past round)
-    up_told life is going kept up id_is call_is outcome event among =
+        → IsTold up (given config number past round)
+    up_told life is going kept only up id_is call_is outcome event among =
         let item = item_given now_at 0 (items config number past round) (event, Up up) among in
         let mine : Holds k id (side_held (calls_in config past call_id)).clients =
         subst (λ (named : Id × List ℕ). Holds k named.0
@@ -252,8 +273,8 @@ module _ (config : Config) (number : ℕ) (past : Past) (round : Round) where
         let parts = given_is config number past round k in
         let started : Among said (id, k) =
         subst (λ i. Among said (i, k)) going.id_is (linked.started k serves life is) in
-        subst (IsTold id) (sym parts)
-        (told_right id first_outs outs
+        subst (IsTold up) (sym parts)
+        (told_right up first_outs outs
         (items_told (calls_of config) k now_at commanded serves (no_invite k client) id call_id
         (second_items config number past round) (calls_ticked config number past round) said
         (λ q. (each_notice_is_own (calls_of config) q (calls_in config past q) None now_at
@@ -268,7 +289,7 @@ module _ (config : Config) (number : ℕ) (past : Past) (round : Round) where
         ))
         started
         (tick_asked k id commanded (calls_of config) (calls_in config past call_id) now_at mine)
-        item.0 item.1 (item.2 ∙ call_is)
+        only item.0 item.1 (item.2 ∙ call_is)
         (record { event = event; up = up; is = item.3; id_is = id_is; outcome = outcome })))
       where
         own_call : (q : List ℕ) → IsCallOf q (calls_in config past q)
@@ -285,61 +306,72 @@ module _ (config : Config) (number : ℕ) (past : Past) (round : Round) where
             (sym (append_assoc said (starts (given config number past round))
             (starts_from config (suc number) next_past rounds))) (fair.once x)))
 
+    hands_told : (life : Life) → lives_in past k ≡ Some life
+        → IsGoing k client id call_id end Came life
+        → AreKept k (orders (given config number past round)) → brought id ≤ 1 → (outs : List Out)
+        → (hands : HandsUp k id call_id end Came outs) → (event : Id)
+        → Among (items config number past round) (event, Up hands.up) → TellsHere
+    hands_told life is going kept only outs hands event among = record {
+      up = hands.up;
+      told = up_told life is going kept only hands.up hands.id_is hands.call_is hands.outcome event
+          among;
+      id_is = hands.id_is;
+      call_is = hands.call_is;
+      outcome = hands.outcome;
+      cause = hands.cause;
+      came = hands.came;
+      causes = hands.causes;
+    }
+
     -- it goes on, unless timer F is due; or the user is told of its outcome
-    pub round_goes : AreKept k (orders (given config number past round))
-        → Goes (lives_in past k)
-        → (Goes (lives_in next_past k) × (nat_le end now_at ≡ true → ⊥))
-        ⊎ IsTold id (given config number past round)
-    round_goes kept (life, is, going) =
+    pub round_goes : AreKept k (orders (given config number past round)) → brought id ≤ 1
+        → RoundCame k Came → Goes (lives_in past k)
+        → (Goes (lives_in next_past k) × (nat_le end now_at ≡ true → ⊥)) ⊎ TellsHere
+    round_goes kept only here (life, is, going) =
         let goes : Goes (lives_in past k) = (life, is, going) in
         ⊎_elim
         (λ on. ⊎_elim
         (λ between. inl (
           subst Goes (sym (after_is config number past round k))
-              (goes_run k client id call_id end now_at (orders (given config number past round))
+              (goes_run k client id call_id end Came now_at
+              (orders (given config number past round))
               (lives_between config number past round k) kept between),
-          λ late. ends_ticked k client id call_id end (lives_in past k) now_at late goes on,
+          λ late. ends_ticked k client id call_id end Came (lives_in past k) now_at late goes on,
         ))
         (λ hands.
         let there = up_among now_at number (lives_ticked config number past round)
         (came_in config number past round) (first_ticks config number past round) hands.up
         hands.among in
-        inr (up_told life is going kept hands.up hands.id_is hands.call_is hands.outcome there.0
+        inr (hands_told life is going kept only _ hands there.0
         (subst (λ (all : List (Id × Item)). Among all (there.0, Up hands.up))
         (sym (items_are config number past round)) there.1)))
-        (items_then k client id call_id end (first_items config number past round)
-        (lives_ticked config number past round) (no_events config number past round) on))
+        (items_then k client id call_id end Came (first_items config number past round)
+        (lives_ticked config number past round) (no_events config number past round) here.items
+        on))
         (λ hands.
         let there = tick_given k life is hands.up hands.among in
-        inr (up_told life is going kept hands.up hands.id_is hands.call_is hands.outcome there.0
-        there.1))
-        (ticked k client id call_id end (lives_in past k) now_at goes)
+        inr (hands_told life is going kept only _ hands there.0 there.1))
+        (ticked k client id call_id end Came (lives_in past k) now_at here.tick goes)
 
   -- what is told is among the outputs
-  pub told_given : (id : Id) → IsTold id (given_second config number past round)
-      → (o : Output) × Among (answer config number past round) o × (tells_outcome id o ≡ true)
-  told_given id (call_out.Notice notice, among, is) =
+  pub told_given : (told : Notice) → Among (given config number past round) (call_out.Notice told)
+      → Among (answer config number past round) (output.Notice told)
+  told_given notice among =
       let told = said_by_transactions past.transactions (first config number past round) in
       let one = sent_first told (arrivals config number past round) in
       let shown = flat_map call_outputs (given_second config number past round) in
       let last = flat_map sent_of (all_said (said_by_transactions
       (past.transactions ++ first config number past round ∷ []) (third config number past round)))
-      in (
-        output.Notice notice,
-        subst (λ all. Among all (output.Notice notice))
-            (sym (answer_parts config number past round))
-            (among_left (one ++ shown) last (output.Notice notice)
-            (among_right one shown (output.Notice notice)
-            (among_flat call_outputs (given_second config number past round)
-            (call_out.Notice notice) (output.Notice notice) among (inl refl)))),
-        is,
-      )
-  told_given id (call_out.Command own c, among, is) = absurd (false≢true is)
-  told_given id (call_out.Direct to bytes, among, is) = absurd (false≢true is)
+      in
+      subst (λ all. Among all (output.Notice notice)) (sym (answer_parts config number past round))
+      (among_left (one ++ shown) last (output.Notice notice)
+      (among_right one shown (output.Notice notice)
+      (among_flat call_outputs (given_second config number past round)
+      (call_out.Notice notice) (output.Notice notice) among (inl refl))))
 
 -- ---- all rounds
 
-abbrev any_abandon : List (Timed Input) → Bool
+abbrev pub any_abandon : List (Timed Input) → Bool
 any_abandon inputs = list_any (λ timed. is_abandon timed.input) inputs
 
 first_part : (xs ys : List (Timed Input)) → any_abandon (xs ++ ys) ≡ false
@@ -360,19 +392,19 @@ last_part (x ∷ xs) ys none =
     (λ miss. last_part xs ys (sym (ap (λ b. b || any_abandon (xs ++ ys)) miss) ∙ none))
 
 -- what the transaction is given in phases
-abbrev given_to : List (Phase Key (Timed Input)) → Key → List (Timed Input)
+abbrev pub given_to : List (Phase Key (Timed Input)) → Key → List (Timed Input)
 given_to phases k = history key_cmp tick_at phases k
 
-two_parts : (xs ys : List (Phase Key (Timed Input))) (k : Key)
+pub two_parts : (xs ys : List (Phase Key (Timed Input))) (k : Key)
     → given_to (xs ++ ys) k ≡ given_to xs k ++ given_to ys k
 two_parts xs ys k =
     flat_map-append (λ (phase : Phase Key (Timed Input)). own_inputs key_cmp tick_at phase k) xs ys
 
 module _ (config : Config) (k : Key) where
-  abbrev IsKept : Past → Type 0
+  abbrev pub IsKept : Past → Type 0
   IsKept past = any_abandon (given_to past.transactions k) ≡ false
 
-  one_kept : (number : ℕ) (past : Past) (round : Round)
+  pub one_kept : (number : ℕ) (past : Past) (round : Round)
       → IsKept (past_after config number past round)
       → IsKept past × AreKept k (orders (given_second config number past round))
   unfolding past_after third
@@ -393,7 +425,7 @@ module _ (config : Config) (k : Key) where
         kept_orders k round.moment (orders (given_second config number past round)) 0 end,
       )
 
-  all_kept : (rounds : List Round) (number : ℕ) (past : Past)
+  pub all_kept : (rounds : List Round) (number : ℕ) (past : Past)
       → IsKept (past_from config number past rounds) → IsKept past
   all_kept [] number past none = none
   all_kept (round ∷ rounds) number past none =
@@ -412,7 +444,7 @@ module _ (config : Config) (k : Key) where
   past_parts (round ∷ rounds) more number past =
       past_parts rounds more (suc number) (past_after config number past round)
 
-  answer_sides : (rounds more : List Round) (number : ℕ) (past : Past)
+  pub answer_sides : (rounds more : List Round) (number : ℕ) (past : Past)
       → each_from answer config number past (rounds ++ more)
       ≡ each_from answer config number past rounds
       ++ each_from answer config (number_from number rounds) (past_from config number past rounds)
@@ -447,115 +479,3 @@ module _ (config : Config) (k : Key) where
         rest.3,
         rest.4 ∙ append_assoc said here (starts_from config (suc number) next rounds),
       )
-
-  -- one of the outputs tells of the outcome
-  abbrev Tells : Id → ℕ → Past → List Round → Type 0
-  Tells id number past rounds = (o : Output)
-      × Among (all_given (each_from answer config number past rounds)) o
-      × (tells_outcome id o ≡ true)
-
-  module _ (client : role_of k ≡ role.Client) (commanded : IsCommanded k) (id : Id)
-      (call_id : List ℕ) (end : ℕ) where
-    later_told : (rounds : List Round) (number : ℕ) (past : Past) (said : List (Id × Key))
-        (came : List Id) → IsFair config number past rounds said came
-        → IsLinked config past said came → IsKept (past_from config number past rounds)
-        → GoesOn k client id call_id end (lives_in past k) → reaches end rounds
-        → Tells id number past rounds
-    later_told [] number past said came fair linked none goes reached =
-        absurd (false≢true reached)
-    later_told (round ∷ rounds) number past said came fair linked none goes reached =
-        let next = past_after config number past round in
-        let kept = one_kept number past round (all_kept rounds (suc number) next none) in
-        let here = answer config number past round in
-        let rest = all_given (each_from answer config (suc number) next rounds) in
-        ⊎_elim
-        (λ on.
-        let later = later_told rounds (suc number) next
-        (said ++ starts (given_second config number past round))
-        (came ++ requests_among (items_of_round config number past round))
-        (fair_next config number past round rounds said came fair)
-        (linked_next config number past round rounds said came fair linked) none on.0
-        (by_bool (nat_le end round.moment) (λ late. absurd (on.1 late))
-        (λ early. sym (ap (λ b. b || list_any (λ r. nat_le end r.moment) rounds) early)
-        ∙ reached)) in
-        (later.0, among_right here rest later.0 later.1, later.2))
-        (λ told.
-        let one = told_given config number past round id told in
-        (one.0, among_left here rest one.0 one.1, one.2))
-        (round_goes config number past round rounds said came fair linked k client commanded id
-        call_id end kept.1 goes)
-
-one_counted : {X : Type 0} (test : X → Bool) (xs : List X) (x : X) → Among xs x
-    → test x ≡ true → 1 ≤ count_by test xs
-one_counted test [] x among is = absurd among
-one_counted test (y ∷ ys) x (inl same) is =
-    omega (
-      arith,
-      sum_by-cons (λ z. cond {A = ℕ} (test z) 1 0) y ys,
-      ap (λ b. cond {A = ℕ} b 1 0) (ap test same ∙ is),
-    )
-one_counted test (y ∷ ys) x (inr later) is =
-    omega (
-      arith,
-      sum_by-cons (λ z. cond {A = ℕ} (test z) 1 0) y ys,
-      one_counted test ys x later is,
-    )
-
-pub each_has_an_outcome : (config : Config) (earlier later : List Round) (round : Round)
-    (key : Key) (id : Id) → Sends config earlier round key id
-    → is_given_up config (earlier ++ round ∷ later) key ≡ false
-    → reaches (round.moment + 64 * T1) later
-    → 1 ≤ outcomes_told config (earlier ++ round ∷ later) id
-unfolding past_of answers
-each_has_an_outcome config earlier later round key id sends kept reached =
-    let start = config.first in
-    let number = number_from config key start earlier in
-    let past = past_from config start no_past earlier in
-    let next = past_after config number past round in
-    let more = round ∷ later in
-    let client = sends.other in
-    let commanded = is_commanded key sends.commanded in
-    let now = round.moment in
-    let before = walk config key earlier more start no_past [] []
-    (all_fair config (earlier ++ more)) (nothing_linked config) in
-    let said = before.0 in
-    let came = before.1 in
-    let fair = before.2 in
-    let linked = before.3 in
-    let none : lives_in past key ≡ None = sends.none_before in
-    let between : lives_between config number past round key ≡ None =
-    none_then key client now (first_items config number past round)
-    (lives_ticked config number past round) (no_events config number past round)
-    (none_at key client now (lives_in past key) None now tt none) in
-    let new : HeldIn (IsNew key client now) (lives_in next key) =
-    subst (HeldIn (IsNew key client now)) (sym (after_is config number past round key))
-    (new_run key client now (orders (given config number past round))
-    (lives_between config number past round key)
-    (subst (HeldIn (IsNew key client now)) (sym between) tt)) in
-    let is : lives_in next key ≡ Some sends.life =
-    ap (λ p. lives_in p key) (sym (past_parts config key earlier (round ∷ []) start no_past))
-    ∙ sends.begins in
-    let life = sends.life in
-    let going = going_new key client now (lives_in next key) life is new in
-    let kept_all : IsKept config key (past_from config (suc number) next later) =
-    sym (ap (λ (p : Past). any_abandon (given_to p.transactions key))
-    (past_parts config key earlier more start no_past)) ∙ kept in
-    let told = later_told config key client commanded life.context.id life.context.call_id
-    (now + LIFETIME) later (suc number) next
-    (said ++ starts (given_second config number past round))
-    (came ++ requests_among (items_of_round config number past round))
-    (fair_next config number past round later said came fair)
-    (linked_next config number past round later said came fair linked) kept_all
-    (life, is, going) reached in
-    let parts = answer_sides config key earlier more start no_past in
-    let first_given = all_given (each_from answer config start no_past earlier) in
-    let here = answer config number past round in
-    let rest = all_given (each_from answer config (suc number) next later) in
-    let among : Among (all_given (each_from answer config start no_past (earlier ++ more))) told.0 =
-    subst (λ outs. Among outs told.0)
-    (sym (ap all_given parts
-    ∙ flat_map-append (λ outputs. outputs) (each_from answer config start no_past earlier)
-    (each_from answer config number past more)))
-    (among_right first_given (here ++ rest) told.0 (among_right here rest told.0 told.1)) in
-    one_counted (tells_outcome id) _ told.0 among
-    (ap (λ i. tells_outcome i told.0) (sym sends.id_is) ∙ told.2)

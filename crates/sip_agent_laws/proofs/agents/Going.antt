@@ -1,10 +1,10 @@
 -- A client transaction of a request other than INVITE goes on without a final response, or hands up
 -- its outcome.
-use Rattle.std.proofs.Common.{◌≡◌, ◌⊎◌, inl, inr, ⊎_elim, ℕ, ◌+◌, ◌≤◌, Bool, true, false, cond, ◌&&◌, ◌||◌, List, [], ◌∷◌, ◌++◌, refl, sym, ap, ◌∙◌, subst, arith, append-nil, zero-add}
-use Rattle.std.specs.Prelude.{not, nat_le, Option, None, Some, option_map, option_to_list}
+use Rattle.std.proofs.Common.{◌≡◌, ◌⊎◌, inl, inr, ⊎_elim, ℕ, ◌+◌, ◌≤◌, Bool, true, false, cond, ◌&&◌, ◌||◌, List, [], ◌∷◌, ◌++◌, map, refl, sym, ap, ◌∙◌, subst, arith, append-nil, codes, zero-add}
+use Rattle.std.specs.Prelude.{filter, not, nat_le, Option, None, Some, option_map, option_to_list}
 use Rattle.std.specs.BTreeMap.{is_at}
 use Rattle.std.specs.List.{AllByRecursion}
-use Rattle.std.proofs.lemmas.Bool.{false≢true}
+use Rattle.std.proofs.lemmas.Bool.{false≢true, leb-true}
 use Rattle.std.proofs.lemmas.List.Sums.{sum_by-cons}
 use Rattle.sip_message.specs.declared.addr.Addr.{Addr}
 use Rattle.sip_message.specs.declared.id.Id.{Id}
@@ -17,7 +17,7 @@ use Rattle.sip_message.specs.Keys.{exact_keys}
 use Rattle.sip_timers.specs.declared.estimate.TheConstants.{LIFETIME}
 use Rattle.keyed_machine.specs.declared.item.Item.{Item}
 use Rattle.keyed_machine.specs.Machine.{Timed, adds, next, tick_at}
-use Rattle.keyed_machine.specs.Phase.{states_then}
+use Rattle.keyed_machine.specs.Phase.{inputs_of as own_items, states_then}
 use Rattle.keyed_machine.proofs.Ordered.{by_bool, exact_at}
 use Rattle.sip_transactions.specs.declared.input.Command.{Command}
 use Rattle.sip_transactions.specs.declared.input.Command.TheVariants as order
@@ -28,6 +28,8 @@ use Rattle.sip_transactions.specs.declared.life.Life.{Life}
 use Rattle.sip_transactions.specs.declared.output.Out.{Out}
 use Rattle.sip_transactions.specs.declared.output.Out.TheVariants as out
 use Rattle.sip_transactions.specs.declared.output.Up.{Up as AnUp}
+use Rattle.sip_transactions.specs.declared.output.UpKind.{UpKind}
+use Rattle.sip_transactions.specs.declared.output.UpKind.TheVariants as kind
 use Rattle.sip_transactions.specs.declared.state.Role.{Role}
 use Rattle.sip_transactions.specs.declared.state.Role.TheVariants as role
 use Rattle.sip_transactions.specs.declared.state.State.{State}
@@ -40,17 +42,19 @@ use Rattle.sip_transactions.specs.declared.trigger.Trigger.TheVariants as on
 use Rattle.sip_transactions.specs.Machine.{transaction_machine}
 use Rattle.sip_transactions.specs.Rules.Step.{step_at}
 use Rattle.sip_transactions.specs.Shard.{asked_by, command_key}
-use Rattle.sip_transactions.specs.Steps.Input.{answer_of, arrived_in, class_of, is_abandon, role_of, trigger_of}
-use Rattle.sip_transactions.specs.Steps.Life.{state_of, stepped}
-use Rattle.sip_transactions.specs.Steps.Output.{handed_out, outputs_of, send_out}
+use Rattle.sip_transactions.specs.Steps.Input.{answer_of, arrival_of, arrived_in, class_of, is_abandon, is_same_method, message_in, role_of, trigger_of}
+use Rattle.sip_transactions.specs.Steps.Life.{acted, state_of, stepped}
+use Rattle.sip_transactions.specs.Steps.Output.{handed_out, kind_of, made_bytes, outputs_of, send_out, sent_bytes}
+use Rattle.sip_timers.specs.Queue.{is_due}
 use Rattle.sip_transactions.proofs.Firings.{is_client}
 use Rattle.sip_transactions.proofs.LawSteps.{by_step}
 use Rattle.sip_transactions.proofs.Rules.{step_is}
 use Rattle.sip_agent_laws.specs.Agents.Open.{is_open}
+use Rattle.sip_agent_laws.specs.Agents.Outcomes.{Causes}
 use Rattle.sip_agent_laws.specs.Transactions.Outcomes.{is_outcome, is_up, ups}
 use Rattle.sip_agent_laws.proofs.agents.Commands.{IsAbandonOf, ordered, run}
 use Rattle.sip_agent_laws.proofs.agents.FirstPhase.{AreArrivals, IsArrival, Items, States, all_of, after_item, no_start, tells}
-use Rattle.sip_agent_laws.proofs.agents.Lists.{Among, among_left, among_right, both, each_of}
+use Rattle.sip_agent_laws.proofs.agents.Lists.{Among, among_either, among_left, among_right, both, each_of}
 use Rattle.sip_agent_laws.proofs.agents.OpenLives.{is_server, lives_on}
 use Rattle.sip_agent_laws.proofs.transactions.Ends.{Asks, HasAsked, first_asks, is_invite_client, is_plain_client, lack, lacks, is_not, next_asks, pends, rest_enough, tick_asked}
 use Rattle.sip_agent_laws.proofs.transactions.Inputs.{HeldIn, begins, by_each, by_input, first_in, next_in, passes, rule}
@@ -93,14 +97,18 @@ all_named k life timed =
     (handed_named k life step.handed (arrived_in timed.input))
     (sends_named k life.context.id life.context.call_id life.context.to _))
 
--- the outcome of a request comes up
-pub record HandsUp (k : Key) (id : Id) (call_id : List ℕ) (outs : List Out) : Type 0 where
+-- the outcome of a request comes up; such an input brings it about, of which this is true
+pub record HandsUp (k : Key) (id : Id) (call_id : List ℕ) (end : ℕ) (Came : Timed Input → Type 0)
+    (outs : List Out) : Type 0 where
   pub up : AnUp
   pub among : Among outs (out.Up up)
   pub key_is : up.key ≡ k
   pub id_is : up.id ≡ id
   pub call_is : up.call_id ≡ call_id
   pub outcome : is_outcome up.kind ≡ true
+  pub cause : Timed Input
+  pub came : Came cause
+  pub causes : Causes end cause up.kind
 
 some_up : (outs : List Out) → (ups is_outcome outs ≡ 0)
     ⊎ ((up : AnUp) × Among outs (out.Up up) × (is_outcome up.kind ≡ true))
@@ -202,7 +210,224 @@ no_abandon_order (Some Abandon) order = absurd order
 no_abandon_order (Some (Start id call_id message to)) order = refl
 no_abandon_order (Some (Answer id message)) order = refl
 
-module _ (k : Key) (client : role_of k ≡ role.Client) (id : Id) (call_id : List ℕ) (end : ℕ) where
+-- ---- what brings an outcome about
+
+abbrev is_timeout_due : Trigger → Bool
+is_timeout_due on.TimeoutDue = true
+is_timeout_due _ = false
+
+abbrev is_failed_send : Trigger → Bool
+is_failed_send on.Failed = true
+is_failed_send _ = false
+
+-- a timeout is handed up once it is due, a failure when one is reported
+abbrev handed_for : UpAction → Trigger → Bool
+handed_for up.Nothing trigger = true
+handed_for up.Message trigger = true
+handed_for up.Timeout trigger = is_timeout_due trigger
+handed_for up.Failed trigger = is_failed_send trigger
+handed_for up.NoTransaction trigger = true
+
+abbrev hands_for : Role → State → Trigger → Step → Bool
+hands_for r state trigger step = handed_for step.handed trigger
+
+arrives_plain : (line : StartLine) (method : List ℕ)
+    → (is_timeout_due (arrival_of line method) ≡ false)
+    × (is_failed_send (arrival_of line method) ≡ false)
+arrives_plain (start.Request uri) method = by_ack (is_same_method method (codes "ACK"))
+  where
+    by_ack : (ack : Bool) → (is_timeout_due (cond ack on.Ack on.Request) ≡ false)
+        × (is_failed_send (cond ack on.Ack on.Request) ≡ false)
+    by_ack true = (refl, refl)
+    by_ack false = (refl, refl)
+arrives_plain (start.Response status reason) method = (refl, refl)
+
+answers_plain : (line : StartLine) (trigger : Trigger) → answer_of line ≡ Some trigger
+    → (is_timeout_due trigger ≡ false) × (is_failed_send trigger ≡ false)
+answers_plain (start.Request uri) trigger is = absurd cc
+answers_plain (start.Response status reason) trigger is =
+    let same : on.Answer (class_of status) ≡ trigger = cc in
+    (sym (ap is_timeout_due same), sym (ap is_failed_send same))
+
+same_trigger : (one other : Trigger) → Some one ≡ Some other → one ≡ other
+same_trigger one other same = cc
+
+due_end : (now end : ℕ) (ending repeat : Option ℕ) (trigger : Trigger) → ending ≡ Some end
+    → cond (is_due now ending) (Some on.TimeoutDue) (cond (is_due now repeat)
+    (Some on.RetransmitDue) None) ≡ Some trigger
+    → is_timeout_due trigger ≡ true → end ≤ now
+due_end now end ending repeat trigger ends is due =
+    by_bool (nat_le end now) (λ late. leb-true end now late)
+    (λ early. absurd (never (is_due now repeat) (sym (ap (λ b. cond b (Some on.TimeoutDue)
+    (cond (is_due now repeat) (Some on.RetransmitDue) None)) (ends_not early)) ∙ is)))
+  where
+    ends_not : nat_le end now ≡ false → is_due now ending ≡ false
+    ends_not early = ap (is_due now) ends ∙ early
+
+    never : (again : Bool) → cond again (Some on.RetransmitDue) None ≡ Some trigger → ⊥
+    never true same =
+        false≢true (ap is_timeout_due (same_trigger on.RetransmitDue trigger same) ∙ due)
+    never false same = absurd cc
+
+-- a timeout comes of a tick, at the end or later
+by_end : (life : Life) (now end : ℕ) (input : Option Input) (trigger : Trigger)
+    → life.context.timers.ending ≡ Some end → trigger_of (Some life) now input ≡ Some trigger
+    → is_timeout_due trigger ≡ true → (input ≡ None) × (end ≤ now)
+by_end life now end None trigger ends is due =
+    (refl, due_end now end life.context.timers.ending life.context.timers.repeat trigger ends is due)
+by_end life now end (Some (Receive id message reply_to)) trigger ends is due =
+    let same = same_trigger (arrival_of message.start message.cseq.method) trigger is in
+    absurd (false≢true (sym (arrives_plain message.start message.cseq.method).0
+    ∙ (ap is_timeout_due same ∙ due)))
+by_end life now end (Some (Start id call_id message to)) trigger ends is due =
+    absurd (false≢true (ap is_timeout_due (same_trigger on.Start trigger is) ∙ due))
+by_end life now end (Some (Answer id message)) trigger ends is due =
+    absurd (false≢true (sym (answers_plain message.start trigger is).0 ∙ due))
+by_end life now end (Some (Failed id)) trigger ends is due =
+    absurd (false≢true (ap is_timeout_due (same_trigger on.Failed trigger is) ∙ due))
+by_end life now end (Some Abandon) trigger ends is due = absurd cc
+
+-- a failure comes of the report of one
+by_failure : (life : Life) (now : ℕ) (input : Option Input) (trigger : Trigger)
+    → trigger_of (Some life) now input ≡ Some trigger → is_failed_send trigger ≡ true
+    → (id : Id) × (input ≡ Some (Failed id))
+by_failure life now None trigger is failed =
+    absurd (never (is_due now life.context.timers.ending) (is_due now life.context.timers.repeat) is)
+  where
+    never : (over again : Bool) → cond over (Some on.TimeoutDue)
+        (cond again (Some on.RetransmitDue) None) ≡ Some trigger → ⊥
+    never true again same =
+        false≢true (ap is_failed_send (same_trigger on.TimeoutDue trigger same) ∙ failed)
+    never false true same =
+        false≢true (ap is_failed_send (same_trigger on.RetransmitDue trigger same) ∙ failed)
+    never false false same = absurd cc
+by_failure life now (Some (Receive id message reply_to)) trigger is failed =
+    let same = same_trigger (arrival_of message.start message.cseq.method) trigger is in
+    absurd (false≢true (sym (arrives_plain message.start message.cseq.method).1
+    ∙ (ap is_failed_send same ∙ failed)))
+by_failure life now (Some (Start id call_id message to)) trigger is failed =
+    absurd (false≢true (ap is_failed_send (same_trigger on.Start trigger is) ∙ failed))
+by_failure life now (Some (Answer id message)) trigger is failed =
+    absurd (false≢true (sym (answers_plain message.start trigger is).1 ∙ failed))
+by_failure life now (Some (Failed id)) trigger is failed = (id, refl)
+by_failure life now (Some Abandon) trigger is failed = absurd cc
+
+-- a message that comes up as an outcome is a response
+by_message : (end now : ℕ) (id : Id) (message : Message) (reply_to : Addr) (line : StartLine)
+    → is_outcome (kind_of line message reply_to) ≡ true
+    → Causes end (record { moment = now; input = Some (Receive id message reply_to) })
+    (kind_of line message reply_to)
+by_message end now id message reply_to (start.Request uri) outcome =
+    absurd (by_ack (is_same_method message.cseq.method (codes "ACK")) outcome)
+  where
+    by_ack : (ack : Bool)
+        → is_outcome (cond ack (kind.Ack message) (kind.Request message reply_to)) ≡ true → ⊥
+    by_ack true outcome = false≢true outcome
+    by_ack false outcome = false≢true outcome
+by_message end now id message reply_to (start.Response status reason) outcome =
+    (id, reply_to, refl)
+
+no_send : (k : Key) (to : Addr) (bytes : Option (List ℕ)) (raised : AnUp)
+    → Among (option_to_list (option_map (send_out k to) bytes)) (out.Up raised) → ⊥
+no_send k to None raised among = absurd among
+no_send k to (Some bytes) raised (inl same) = absurd cc
+no_send k to (Some bytes) raised (inr later) = absurd later
+
+abbrev kind_in : AnUp → Out → UpKind
+kind_in other (out.Up raised) = raised.kind
+kind_in other (out.Send key to bytes) = other.kind
+kind_in other (out.Dropped place why) = other.kind
+
+abbrev at_moment : ℕ → Option Input → Timed Input
+at_moment now input = record { moment = now; input = input }
+
+module _ (k : Key) (life : Life) (now end : ℕ) (ends : life.context.timers.ending ≡ Some end)
+    (trigger : Trigger) (raised : AnUp) (outcome : is_outcome raised.kind ≡ true) where
+  message_causes : (input : Option Input)
+      → Among (option_to_list (handed_out k life.context up.Message (arrived_in input))) (out.Up raised)
+      → Causes end (at_moment now input) raised.kind
+  unfolding handed_out
+  message_causes None among = absurd among
+  message_causes (Some (Receive id message reply_to)) (inl same) =
+      let is : kind_of message.start message reply_to ≡ raised.kind = ap (kind_in raised) same in
+      subst (Causes end (at_moment now (Some (Receive id message reply_to)))) is
+      (by_message end now id message reply_to message.start (ap is_outcome is ∙ outcome))
+  message_causes (Some (Receive id message reply_to)) (inr later) = absurd later
+  message_causes (Some (Start id call_id message to)) among = absurd among
+  message_causes (Some (Answer id message)) among = absurd among
+  message_causes (Some (Failed id)) among = absurd among
+  message_causes (Some Abandon) among = absurd among
+
+  handed_causes : (input : Option Input) → trigger_of (Some life) now input ≡ Some trigger
+      → (handed : UpAction) → handed_for handed trigger ≡ true
+      → Among (option_to_list (handed_out k life.context handed (arrived_in input))) (out.Up raised)
+      → Causes end (at_moment now input) raised.kind
+  unfolding handed_out
+  handed_causes input is up.Nothing fits among = absurd among
+  handed_causes input is up.Message fits among = message_causes input among
+  handed_causes input is up.Timeout fits (inl same) =
+      subst (Causes end (at_moment now input)) (ap (kind_in raised) same)
+      (by_end life now end input trigger ends is fits)
+  handed_causes input is up.Timeout fits (inr later) = absurd later
+  handed_causes input is up.Failed fits (inl same) =
+      subst (Causes end (at_moment now input)) (ap (kind_in raised) same)
+      (by_failure life now input trigger is fits)
+  handed_causes input is up.Failed fits (inr later) = absurd later
+  handed_causes input is up.NoTransaction fits (inl same) = absurd cc
+  handed_causes input is up.NoTransaction fits (inr later) = absurd later
+
+  row_causes : (input : Option Input) → trigger_of (Some life) now input ≡ Some trigger
+      → (step : Step) → handed_for step.handed trigger ≡ true
+      → Among (acted k now input (Some life.state) life.context step).1 (out.Up raised)
+      → Causes end (at_moment now input) raised.kind
+  unfolding outputs_of
+  row_causes input is step fits among =
+      let made = made_bytes life.context.request step.sent (message_in input) in
+      ⊎_elim (λ handed. handed_causes input is step.handed fits handed)
+      (λ sent. absurd (no_send k life.context.to (sent_bytes life.context.last step.sent made) raised
+      sent))
+      (among_either (option_to_list (handed_out k life.context step.handed (arrived_in input)))
+      (option_to_list (option_map (send_out k life.context.to)
+      (sent_bytes life.context.last step.sent made))) (out.Up raised) among)
+
+input_causes : (k : Key) (life : Life) (timed : Timed Input) (end : ℕ)
+    → life.context.timers.ending ≡ Some end → (raised : AnUp)
+    → Among (stepped k (Some life) timed).1 (out.Up raised) → is_outcome raised.kind ≡ true
+    → Causes end timed raised.kind
+input_causes k life timed end ends raised among outcome =
+    let G : Option Life × List Out → Type 0 = λ after. Among after.1 (out.Up raised)
+    → Causes end timed raised.kind in
+    by_input G k life timed (λ given none. absurd none)
+    (λ goes. by_each G k life timed (trigger_of (Some life) timed.moment timed.input)
+    (λ calm none. absurd none)
+    (λ trigger is. row_causes k life timed.moment end ends trigger raised outcome timed.input is
+    (rule (role_of k) life.state trigger)
+    (passes hands_for refl (role_of k) life.state trigger)))
+    among
+
+module _ (k : Key) (Came : Timed Input → Type 0) where
+  -- this is true of its own items
+  abbrev pub OwnCame : Items → Type 0
+  OwnCame items = AllByRecursion Came (own_items key_cmp items k)
+
+  split_own : (item : Item Key (Timed Input)) (items : Items) (hit : Bool)
+      → is_at (key_cmp item.key) k ≡ hit → OwnCame (item ∷ items)
+      → (hit ≡ true → Came item.input) × OwnCame items
+  split_own item items true is came =
+      let kept = filter (λ (i : Item Key (Timed Input)). is_at (key_cmp i.key) k) items in
+      let parts : AllByRecursion Came (item.input ∷ own_items key_cmp items k) =
+      subst (λ b. AllByRecursion Came (map (λ (i : Item Key (Timed Input)). i.input)
+      (cond b (item ∷ kept) kept))) is came in
+      (λ hit. parts.0, parts.1)
+  split_own item items false is came =
+      let kept = filter (λ (i : Item Key (Timed Input)). is_at (key_cmp i.key) k) items in (
+        λ hit. absurd (false≢true hit),
+        subst (λ b. AllByRecursion Came (map (λ (i : Item Key (Timed Input)). i.input)
+            (cond b (item ∷ kept) kept))) is came,
+      )
+
+module _ (k : Key) (client : role_of k ≡ role.Client) (id : Id) (call_id : List ℕ) (end : ℕ)
+    (Came : Timed Input → Type 0) where
   -- It has no final response yet. Its timer F fires at this moment.
   pub record IsGoing (life : Life) : Type 0 where
     pub still : is_open (role_of k) life.state ≡ true
@@ -260,11 +485,20 @@ module _ (k : Key) (client : role_of k ≡ role.Client) (id : Id) (call_id : Lis
           (ap (λ (after : Option Life × List Out). after.0)
           (step_is k (Some life) timed.moment timed.input) ∙ is))
 
+  asks_still : (life : Life) → IsGoing life → (lacks (role_of k) life.state
+      && not (is_invite_client (role_of k) && pends life.state)) ≡ true
+  asks_still life going =
+      ap (λ r. lacks r life.state && not (is_invite_client r && pends life.state)) client
+      ∙ asks_open life.state (ap (λ r. is_open r life.state) (sym client) ∙ going.still)
+
+  abbrev pub Hands : List Out → Type 0
+  Hands outs = HandsUp k id call_id end Came outs
+
   -- an input: it goes on, or hands up its outcome
-  one_input : (life : Life) (timed : Timed Input) → is_abandon timed.input ≡ false → IsGoing life
-      → GoesOn (stepped k (Some life) timed).0
-      ⊎ HandsUp k id call_id (stepped k (Some life) timed).1
-  one_input life timed kept going =
+  one_input : (life : Life) (timed : Timed Input) → is_abandon timed.input ≡ false → Came timed
+      → IsGoing life
+      → GoesOn (stepped k (Some life) timed).0 ⊎ Hands (stepped k (Some life) timed).1
+  one_input life timed kept here going =
       let outs = (stepped k (Some life) timed).1 in
       let after = (stepped k (Some life) timed).0 in
       let enough = rest_enough k (ap is_client client) (Some life) (timed ∷ []) (kept, tt)
@@ -281,6 +515,10 @@ module _ (k : Key) (client : role_of k ≡ role.Client) (id : Id) (call_id : Lis
         id_is = named.1 ∙ going.id_is;
         call_is = named.2 ∙ going.call_is;
         outcome = one.2;
+        cause = timed;
+        came = here;
+        causes = input_causes k life timed end (going.asks (asks_still life going)) one.0 one.1
+            one.2;
       }))
       (some_up outs)
 
@@ -288,10 +526,7 @@ module _ (k : Key) (client : role_of k ≡ role.Client) (id : Id) (call_id : Lis
 
   no_longer : (after : Option Life) → HeldIn (HasAsked (role_of k)) after → GoesOn after → ⊥
   no_longer after asked (life, is, going) =
-      let asks : (lacks (role_of k) life.state
-      && not (is_invite_client (role_of k) && pends life.state)) ≡ true =
-      ap (λ r. lacks r life.state && not (is_invite_client r && pends life.state)) client
-      ∙ asks_open life.state (ap (λ r. is_open r life.state) (sym client) ∙ going.still) in
+      let asks = asks_still life going in
       let over : HasAsked (role_of k) life.state life.context =
       subst (HeldIn (HasAsked (role_of k))) is asked in
       false≢true (sym over ∙ asks)
@@ -305,24 +540,23 @@ module _ (k : Key) (client : role_of k ≡ role.Client) (id : Id) (call_id : Lis
   -- ---- the inputs of the first phase
 
   at_step : (life : Life) (now : ℕ) (input : Option Input)
-      → is_abandon input ≡ false → IsGoing life
-      → GoesOn (step_at k (Some life) now input).0
-      ⊎ HandsUp k id call_id (step_at k (Some life) now input).1
-  at_step life now input kept going =
-      subst (λ (after : Option Life × List Out). GoesOn after.0 ⊎ HandsUp k id call_id after.1)
+      → is_abandon input ≡ false → Came (at_moment now input) → IsGoing life
+      → GoesOn (step_at k (Some life) now input).0 ⊎ Hands (step_at k (Some life) now input).1
+  at_step life now input kept here going =
+      subst (λ (after : Option Life × List Out). GoesOn after.0 ⊎ Hands after.1)
       (sym (step_is k (Some life) now input))
-      (one_input life (record { moment = now; input = input }) kept going)
+      (one_input life (at_moment now input) kept here going)
 
   held_step : (held : Option Life) (now : ℕ) (input : Option Input)
-      → is_abandon input ≡ false → GoesOn held
-      → GoesOn (step_at k held now input).0 ⊎ HandsUp k id call_id (step_at k held now input).1
-  held_step held now input kept (life, is, going) =
-      subst (λ h. GoesOn (step_at k h now input).0 ⊎ HandsUp k id call_id (step_at k h now input).1)
-      (sym is) (at_step life now input kept going)
+      → is_abandon input ≡ false → Came (at_moment now input) → GoesOn held
+      → GoesOn (step_at k held now input).0 ⊎ Hands (step_at k held now input).1
+  held_step held now input kept here (life, is, going) =
+      subst (λ h. GoesOn (step_at k h now input).0 ⊎ Hands (step_at k h now input).1)
+      (sym is) (at_step life now input kept here going)
 
-  pub ticked : (held : Option Life) (now : ℕ) → GoesOn held
-      → GoesOn (step_at k held now None).0 ⊎ HandsUp k id call_id (step_at k held now None).1
-  ticked held now goes = held_step held now None refl goes
+  pub ticked : (held : Option Life) (now : ℕ) → Came (tick_at now) → GoesOn held
+      → GoesOn (step_at k held now None).0 ⊎ Hands (step_at k held now None).1
+  ticked held now here goes = held_step held now None refl here goes
 
   pub ends_ticked : (held : Option Life) (now : ℕ) → nat_le end now ≡ true → GoesOn held
       → GoesOn (step_at k held now None).0 → ⊥
@@ -344,19 +578,20 @@ module _ (k : Key) (client : role_of k ≡ role.Client) (id : Id) (call_id : Lis
   is_key q hit = exact_at keys_total exact_keys q k hit
 
   one_item : (states : States) (item : Item Key (Timed Input)) (hit : Bool)
-      → is_at (key_cmp item.key) k ≡ hit → IsArrival item.input.input → GoesOn (states k)
+      → is_at (key_cmp item.key) k ≡ hit → IsArrival item.input.input
+      → (hit ≡ true → Came item.input) → GoesOn (states k)
       → GoesOn (cond hit (next transaction_machine item.key (states item.key) item.input)
       (states k))
-      ⊎ HandsUp k id call_id (adds transaction_machine item.key (states item.key) item.input)
-  one_item states item true hit arrives goes =
+      ⊎ Hands (adds transaction_machine item.key (states item.key) item.input)
+  one_item states item true hit arrives here goes =
       let same = is_key item.key hit in
       subst (λ q. GoesOn (next transaction_machine q (states q) item.input)
-      ⊎ HandsUp k id call_id (adds transaction_machine q (states q) item.input)) (sym same)
+      ⊎ Hands (adds transaction_machine q (states q) item.input)) (sym same)
       (held_step (states k) item.input.moment item.input.input
-      (no_abandon item.input.input arrives) goes)
-  one_item states item false miss arrives goes = inl goes
+      (no_abandon item.input.input arrives) (here refl) goes)
+  one_item states item false miss arrives here goes = inl goes
 
-  more_up : (outs more : List Out) → HandsUp k id call_id outs → HandsUp k id call_id (outs ++ more)
+  more_up : (outs more : List Out) → Hands outs → Hands (outs ++ more)
   more_up outs more hands = record {
     up = hands.up;
     among = among_left outs more (out.Up hands.up) hands.among;
@@ -364,10 +599,12 @@ module _ (k : Key) (client : role_of k ≡ role.Client) (id : Id) (call_id : Lis
     id_is = hands.id_is;
     call_is = hands.call_is;
     outcome = hands.outcome;
+    cause = hands.cause;
+    came = hands.came;
+    causes = hands.causes;
   }
 
-  later_up : (outs more : List Out) → HandsUp k id call_id more
-      → HandsUp k id call_id (outs ++ more)
+  later_up : (outs more : List Out) → Hands more → Hands (outs ++ more)
   later_up outs more hands = record {
     up = hands.up;
     among = among_right outs more (out.Up hands.up) hands.among;
@@ -375,20 +612,25 @@ module _ (k : Key) (client : role_of k ≡ role.Client) (id : Id) (call_id : Lis
     id_is = hands.id_is;
     call_is = hands.call_is;
     outcome = hands.outcome;
+    cause = hands.cause;
+    came = hands.came;
+    causes = hands.causes;
   }
 
-  pub items_then : (items : Items) (states : States) → AreArrivals items → GoesOn (states k)
+  pub items_then : (items : Items) (states : States) → AreArrivals items → OwnCame k Came items
+      → GoesOn (states k)
       → GoesOn (states_then key_cmp transaction_machine states items k)
-      ⊎ HandsUp k id call_id (all_of (tells states items))
-  items_then [] states arrive goes = inl goes
-  items_then (item ∷ items) states arrive goes =
+      ⊎ Hands (all_of (tells states items))
+  items_then [] states arrive came goes = inl goes
+  items_then (item ∷ items) states arrive came goes =
       let here = adds transaction_machine item.key (states item.key) item.input in
       let rest = all_of (tells (after_item states item) items) in
+      let parts = split_own k Came item items (is_at (key_cmp item.key) k) refl came in
       ⊎_elim
       (λ on. ⊎_elim (λ still. inl still) (λ hands. inr (later_up here rest hands))
-      (items_then items (after_item states item) arrive.1 on))
+      (items_then items (after_item states item) arrive.1 parts.1 on))
       (λ hands. inr (more_up here rest hands))
-      (one_item states item (is_at (key_cmp item.key) k) refl arrive.0 goes)
+      (one_item states item (is_at (key_cmp item.key) k) refl arrive.0 parts.0 goes)
 
   -- ---- the commands of the third phase
 
@@ -565,9 +807,10 @@ module _ (k : Key) (client : role_of k ≡ role.Client) (now : ℕ) where
       (states k)) miss ∙ none))
 
   -- a life that is there after it
-  pub going_new : (held : Option Life) (life : Life) → held ≡ Some life → HeldIn IsNew held
-      → IsGoing k client life.context.id life.context.call_id (now + LIFETIME) life
-  going_new held life is new =
+  pub going_new : (held : Option Life) (life : Life) (Came : Timed Input → Type 0)
+      → held ≡ Some life → HeldIn IsNew held
+      → IsGoing k client life.context.id life.context.call_id (now + LIFETIME) Came life
+  going_new held life Came is new =
       let fresh : IsNew life.state life.context = subst (HeldIn IsNew) is new in
       record {
         still = ap (λ r. is_open r life.state) client ∙ (open_lacks life.state

@@ -53,11 +53,11 @@ use Rattle.sip_round.proofs.AnswerParts.{answer_parts, sent_first}
 use Rattle.sip_round.proofs.CallEvents.{TellsAt, arrivals_climb, none_later}
 use Rattle.sip_round.proofs.StartedOnce.{how_many-append}
 use Rattle.sip_agent_laws.specs.Agents.Open.{is_open}
-use Rattle.sip_agent_laws.specs.Agents.Outcomes.{AtMostOneIsTold, EachRequestHasOneOutcome, outcomes_told, tells_outcome}
+use Rattle.sip_agent_laws.specs.Agents.Outcomes.{AtMostOneIsTold, outcomes_told, tells_outcome}
 use Rattle.sip_agent_laws.specs.Transactions.Outcomes.{is_outcome}
 use Rattle.sip_agent_laws.proofs.agents.Apart.{requests_from, starts_from}
 use Rattle.sip_agent_laws.proofs.agents.Commands.{run, run_on}
-use Rattle.sip_agent_laws.proofs.agents.EachOutcome.{each_has_an_outcome, number_from, walk}
+use Rattle.sip_agent_laws.proofs.agents.EachOutcome.{number_from, walk}
 use Rattle.sip_agent_laws.proofs.agents.FirstOuts.{KindIsFrom, OutIsFrom, items_from, received_ticked, started_ticked, ticks_from}
 use Rattle.sip_agent_laws.proofs.agents.Going.{open_lacks}
 use Rattle.sip_agent_laws.proofs.agents.Items.{requests_among}
@@ -81,10 +81,10 @@ module _ (x : Id) where
   coming outs = count_by comes outs
 
   -- it is given to a call
-  abbrev brings : Id × Item → Bool
+  abbrev pub brings : Id × Item → Bool
   brings item = brings_outcome x (Some item)
 
-  abbrev brought : List (Id × Item) → ℕ
+  abbrev pub brought : List (Id × Item) → ℕ
   brought items = count_by brings items
 
   raised_count : (id : Id) (outs : List Out) → brought (flat_map (raised_of id) outs) ≡ coming outs
@@ -392,7 +392,7 @@ module _ (config : Config) (number : ℕ) (past : Past) (round : Round) (rounds 
   came_up outs = came k client x outs
 
   -- so it is given to calls at most once, if it may still come up
-  brought_once : brought x (items config number past round)
+  pub brought_once : brought x (items config number past round)
       + left k client x (lives_between config number past round k)
       ≤ left k client x (lives_in past k)
   brought_once =
@@ -576,11 +576,3 @@ at_most_one_is_told config earlier later round key id sends =
     let whole : outcomes_told config all x ≤ 1 = omega (arith, once, few) in
     subst (λ rounds. outcomes_told config rounds id ≤ 1) (append_assoc earlier (round ∷ []) later)
     (subst (λ i. outcomes_told config all i ≤ 1) sends.id_is whole)
-
-pub each_has_one_outcome : EachRequestHasOneOutcome
-each_has_one_outcome config earlier later round key id sends kept reached =
-    omega (
-      arith,
-      each_has_an_outcome config earlier later round key id sends kept reached,
-      at_most_one_is_told config earlier later round key id sends,
-    )

@@ -1,12 +1,19 @@
 -- How a request that an agent sends ends: its application is told of one outcome (RFC 3261,
 -- sections 8.1.3.1 and 17.1.2.2). T1 is that of section 17.1.1.1.
-use Rattle.std.specs.Prelude.{◌≡◌, ◌≤◌, ℕ, ◌+◌, ◌*◌, Bool, false, ◌&&◌, List, [], ◌∷◌, ◌++◌, None, Some, count_by}
+use Rattle.std.specs.Prelude.{◌≡◌, ◌≤◌, ℕ, ◌+◌, ◌*◌, Bool, true, false, ◌&&◌, List, [], ◌∷◌, ◌++◌, Contains, None, Some, count_by}
 use Rattle.std.specs.List.{list_any}
 use Rattle.sip_message.specs.Key.{method_in}
+use Rattle.sip_message.specs.Party.{tag_of}
+use Rattle.sip_message.specs.declared.addr.Addr.{Addr}
 use Rattle.sip_message.specs.declared.id.Id.{Id}
 use Rattle.sip_message.specs.declared.key.Key.{Key}
 use Rattle.sip_timers.specs.declared.estimate.TheConstants.{T1}
+use Rattle.keyed_machine.specs.Machine.{Timed}
+use Rattle.sip_transactions.specs.declared.input.Input.{Input}
+use Rattle.sip_transactions.specs.declared.input.Input.TheVariants as input
 use Rattle.sip_transactions.specs.declared.life.Life.{Life}
+use Rattle.sip_transactions.specs.declared.output.UpKind.{UpKind}
+use Rattle.sip_transactions.specs.declared.output.UpKind.TheVariants as kind
 use Rattle.sip_transactions.specs.declared.state.Role.TheVariants as role
 use Rattle.sip_transactions.specs.Steps.Input.{is_abandon, role_of}
 use Rattle.sip_user.specs.declared.notice.Notice.{Notice}
@@ -14,6 +21,7 @@ use Rattle.sip_user.specs.declared.notice.Notice.TheVariants.{Response, Timeout,
 use Rattle.sip_held_dialogs.specs.Ids.{is_id}
 use Rattle.sip_held_dialogs.specs.Requests.{is_final}
 use Rattle.sip_clients.specs.Rules.Requests.{has_command}
+use Rattle.sip_clients.specs.Rules.Responses.{status_of}
 use Rattle.sip_round.specs.declared.config.Config.{Config}
 use Rattle.sip_round.specs.declared.output.Output.{Output}
 use Rattle.sip_round.specs.declared.output.Output.TheVariants as output
@@ -22,7 +30,8 @@ use Rattle.sip_round.specs.Answers.{answers}
 use Rattle.sip_round.specs.Given.{all_given}
 use Rattle.sip_round.specs.Laws.{inputs_of}
 use Rattle.sip_agent_laws.specs.Agents.AtRest.{reaches}
-use Rattle.sip_agent_laws.specs.Agents.Open.{life_after}
+use Rattle.sip_agent_laws.specs.Agents.Open.{is_open, life_after}
+use Rattle.sip_agent_laws.specs.Transactions.Outcomes.{is_outcome}
 
 -- ---- outcomes
 
@@ -78,3 +87,60 @@ EachRequestHasOneOutcome = (config : Config) (earlier later : List Round) (round
     → is_given_up config (earlier ++ round ∷ later) key ≡ false
     → reaches (round.moment + 64 * T1) later
     → outcomes_told config (earlier ++ round ∷ later) id ≡ 1
+
+-- ---- which outcome is told
+
+-- What brings the outcome about, of a request whose timer F fires at this moment: a final response
+-- that came, a tick then or later, or the report of a failed send.
+abbrev pub Causes : ℕ → Timed Input → UpKind → Type 0
+Causes end cause (kind.Request request reply_to) = ⊥
+Causes end cause (kind.Ack ack) = ⊥
+Causes end cause (kind.Response response) =
+    (event : Id) × (reply_to : Addr) × (cause.input ≡ Some (input.Receive event response reply_to))
+Causes end cause kind.Timeout = (cause.input ≡ None) × (end ≤ cause.moment)
+Causes end cause kind.Failed = (event : Id) × (cause.input ≡ Some (input.Failed event))
+
+-- a notice tells of it, under this Call-ID and this id: of a response with its status, tags and body
+abbrev pub Tells : List ℕ → Id → UpKind → Notice → Type 0
+Tells call_id id (kind.Request request reply_to) notice = ⊥
+Tells call_id id (kind.Ack ack) notice = ⊥
+Tells call_id id (kind.Response response) notice = (status : ℕ)
+    × (status_of response.start ≡ Some status)
+    × (notice ≡ Response call_id id status (tag_of response.from) (tag_of response.to)
+    response.body)
+Tells call_id id kind.Timeout notice = notice ≡ Timeout call_id id
+Tells call_id id kind.Failed notice = notice ≡ Failed call_id id
+
+-- after these rounds a request of the agent waits for its final response, until timer F fires at
+-- this moment; it has no command of its own
+pub record Waits (config : Config) (rounds : List Round) (key : Key) (end : ℕ) : Type 0 where
+  pub life : Life
+  pub held : life_after config rounds key ≡ Some life
+  pub still : is_open (role_of key) life.state ≡ true
+  pub ends : life.context.timers.ending ≡ Some end
+  pub other : role_of key ≡ role.Client
+  pub commanded : has_command (method_in key) ≡ false
+
+-- the application was told, in these rounds, of an outcome that an input of the transaction brought
+-- about
+pub record IsToldOfOutcome (config : Config) (rounds : List Round) (key : Key) (end : ℕ)
+    (call_id : List ℕ) (id : Id) : Type 0 where
+  pub outcome : UpKind
+  pub final : is_outcome outcome ≡ true
+  pub cause : Timed Input
+  pub came : Contains (inputs_of config rounds key) cause
+  pub causes : Causes end cause outcome
+  pub notice : Notice
+  pub tells : Tells call_id id outcome notice
+  pub told : Contains (all_given (answers config rounds)) (output.Notice notice)
+
+-- Once such a request doesn't wait any longer, the application was told of its outcome, unless the
+-- request is given up.
+abbrev pub OutcomeIsTold : Type 0
+OutcomeIsTold = (config : Config) (earlier later : List Round) (key : Key) (end : ℕ)
+    → (waits : Waits config earlier key end)
+    → is_given_up config (earlier ++ later) key ≡ false
+    → ((life : Life) → life_after config (earlier ++ later) key ≡ Some life
+    → is_open (role_of key) life.state ≡ true → ⊥)
+    → IsToldOfOutcome config (earlier ++ later) key end waits.life.context.call_id
+    waits.life.context.id
