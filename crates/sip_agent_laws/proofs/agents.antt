@@ -19,6 +19,10 @@ pub mod EndTold
 pub mod EachOutcome
 pub mod OneOutcome
 pub mod Idle
+pub mod ServerLives
+pub mod ServedFrom
+pub mod CallServes
+pub mod HasTransaction
 pub mod RestFrom
 pub mod NothingLeft
 pub mod UserEnds

@@ -62,7 +62,7 @@ orders outs = flat_map command_of outs
 
 -- ---- commands among outputs
 
-ordered_among : (outs : List CallOut) (id : Id) (c : Command) → Among outs (out.Command id c)
+pub ordered_among : (outs : List CallOut) (id : Id) (c : Command) → Among outs (out.Command id c)
     → Among (orders outs) (id, c)
 ordered_among outs id c among = among_flat command_of outs (out.Command id c) (id, c) among (inl refl)
 

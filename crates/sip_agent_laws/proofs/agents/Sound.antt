@@ -39,10 +39,10 @@ ids_total : IsTotalOrder id_cmp
 ids_total = then_total (on_total (λ (id : Id). id.round) nat_cmp_total)
     (on_total (λ (id : Id). id.place) nat_cmp_total)
 
-less_itself : (x : Id) → id_cmp x x ≡ Less → ⊥
+pub less_itself : (x : Id) → id_cmp x x ≡ Less → ⊥
 less_itself x less = false≢true (sym (ap is_eq less) ∙ is_at_itself ids_total x)
 
-not_less : (x y : Id) → is_id x y ≡ true → id_cmp x y ≡ Less → ⊥
+pub not_less : (x y : Id) → is_id x y ≡ true → id_cmp x y ≡ Less → ⊥
 not_less x y same less =
     let here : id_cmp x x ≡ Less = ap (id_cmp x) (id_exact x y same) ∙ less in
     less_itself x here
@@ -61,7 +61,7 @@ first_rise one other rise =
     (subst IdsRise (filter_map-append (λ (timed : Timed CallItem). request_brought timed.input) one
     other) rise)
 
-above : (x : Id) (requests : List HeldRequest) (other : HeldRequest)
+pub above : (x : Id) (requests : List HeldRequest) (other : HeldRequest)
     → AllByRecursion (λ y. id_cmp x y ≡ Less) (map (λ held. held.id) requests)
     → Among requests other → id_cmp x other.id ≡ Less
 above x [] other all among = absurd among
@@ -116,15 +116,14 @@ behind_next calls call input more behind = record {
   rise = subst RequestsRise (sym (append_assoc behind.before (input ∷ []) more)) behind.rise;
 }
 
-behind_apart : (calls : Calls) (call : Option Call) (more : List (Timed CallItem))
-    → Behind calls call more → AreApart (requests_held call)
-behind_apart calls call more behind =
-    subst (λ c. AreApart (requests_held c)) behind.is
-    (apart_of (requests_held (call_from calls None behind.before))
-    (held_by_id calls behind.before (first_rise behind.before more behind.rise)))
+pub behind_rise : (calls : Calls) (call : Option Call) (more : List (Timed CallItem))
+    → Behind calls call more → IdsRise (map (λ held. held.id) (requests_held call))
+behind_rise calls call more behind =
+    subst (λ c. IdsRise (map (λ held. held.id) (requests_held c))) behind.is
+    (held_by_id calls behind.before (first_rise behind.before more behind.rise))
 
 module _ (calls : Calls) (k : Key) (now : ℕ) where
-  own_first : (item : Item (List ℕ) (Timed CallItem)) (items : CallItems) (q : List ℕ)
+  pub own_first : (item : Item (List ℕ) (Timed CallItem)) (items : CallItems) (q : List ℕ)
       → item.key ≡ q
       → inputs_of call_cmp (item ∷ items) q ≡ item.input ∷ inputs_of call_cmp items q
   own_first item items q same =
@@ -133,7 +132,7 @@ module _ (calls : Calls) (k : Key) (now : ℕ) where
       (filter (λ i. is_at (call_cmp i.key) q) items)))
       (ap (λ c. is_at (call_cmp c) q) same ∙ is_at_itself nat_list_cmp_total q)
 
-  own_other : (item : Item (List ℕ) (Timed CallItem)) (items : CallItems) (q : List ℕ)
+  pub own_other : (item : Item (List ℕ) (Timed CallItem)) (items : CallItems) (q : List ℕ)
       → is_at (call_cmp item.key) q ≡ false
       → inputs_of call_cmp (item ∷ items) q ≡ inputs_of call_cmp items q
   own_other item items q miss =
@@ -141,7 +140,7 @@ module _ (calls : Calls) (k : Key) (now : ℕ) where
       (cond b (item ∷ filter (λ i. is_at (call_cmp i.key) q) items)
       (filter (λ i. is_at (call_cmp i.key) q) items))) miss
 
-  after_one : (states : CallStates) (item : Item (List ℕ) (Timed CallItem)) (items : CallItems)
+  pub after_one : (states : CallStates) (item : Item (List ℕ) (Timed CallItem)) (items : CallItems)
       → ((q : List ℕ) → Behind calls (states q) (inputs_of call_cmp (item ∷ items) q))
       → (q : List ℕ)
       → Behind calls (after_item calls k now states item q) (inputs_of call_cmp items q)
@@ -167,7 +166,8 @@ module _ (calls : Calls) (k : Key) (now : ℕ) where
       → AreSound calls k now states items
   sound_items [] states each = tt
   sound_items (item ∷ items) states each = (
-    behind_apart calls (states item.key) (inputs_of call_cmp (item ∷ items) item.key)
-        (each item.key),
+    apart_of (requests_held (states item.key))
+        (behind_rise calls (states item.key) (inputs_of call_cmp (item ∷ items) item.key)
+        (each item.key)),
     sound_items items (after_item calls k now states item) (after_one states item items each),
   )
