@@ -57,7 +57,7 @@ use Rattle.sip_agent_laws.proofs.agents.Apart.{starts_from}
 use Rattle.sip_agent_laws.proofs.agents.CallHeld.{tick_asked}
 use Rattle.sip_agent_laws.proofs.agents.Commands.{IsAbandonOf}
 use Rattle.sip_agent_laws.proofs.agents.EndTold.{IsTold, items_told, told_right}
-use Rattle.sip_agent_laws.proofs.agents.Going.{GoesOn, HandsUp, IsGoing, IsNew, ends_ticked, goes_run, going_new, items_then, new_run, none_at, none_then, ticked}
+use Rattle.sip_agent_laws.proofs.agents.Going.{GoesOn, IsGoing, IsNew, ends_ticked, goes_run, going_new, items_then, new_run, none_at, none_then, ticked}
 use Rattle.sip_agent_laws.proofs.agents.Items.{item_given, requests_among, up_among}
 use Rattle.sip_agent_laws.proofs.agents.Linked.{IsLinked, after_is, calls_in, calls_ticked, came_in, first_items, first_ticks, given, given_is, items, items_are, lives_between, lives_in, lives_ticked, no_events, second_items, second_own_items, second_ticks, starts_are}
 use Rattle.sip_agent_laws.proofs.agents.LinkedRounds.{IsFair, all_fair, fair_next, linked_next, nothing_linked}
@@ -226,9 +226,6 @@ module _ (config : Config) (number : ℕ) (past : Past) (round : Round) where
       (commanded : IsCommanded k) (id : Id) (call_id : List ℕ) (end : ℕ) where
     abbrev Goes : Option Life → Type 0
     Goes held = GoesOn k client id call_id end held
-
-    abbrev Hands : List Out → Type 0
-    Hands outs = HandsUp k id call_id outs
 
     serves : is_server (role_of k) ≡ false
     serves = ap is_server client

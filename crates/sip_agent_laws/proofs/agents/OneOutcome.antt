@@ -388,9 +388,6 @@ module _ (config : Config) (number : ℕ) (past : Past) (round : Round) (rounds 
       (behind_now config number past round rounds said before fair) fair.own_calls)
       (λ never. absurd never)
 
-  abbrev came_up : List Out → ℕ
-  came_up outs = came k client x outs
-
   -- so it is given to calls at most once, if it may still come up
   brought_once : brought x (items config number past round)
       + left k client x (lives_between config number past round k)

@@ -202,11 +202,6 @@ early_kind message reply_to (start.Response status reason) is early = (
   early_status (status == 100) (nat_lt status 200) (nat_lt status 300) status refl refl early,
 )
 
-none_early : (o : Option Trigger) (trigger : Trigger) → o ≡ Some trigger
-    → is_early (unwrap_or o on.Ack) ≡ false → is_early trigger ≡ true → ⊥
-none_early o trigger is late early =
-    false≢true (sym late ∙ (ap (λ p. is_early (unwrap_or p on.Ack)) is ∙ early))
-
 due_late : (ending repeat : Bool)
     → is_early (unwrap_or (if ending then Some on.TimeoutDue else if repeat
     then Some on.RetransmitDue else None) on.Ack) ≡ false

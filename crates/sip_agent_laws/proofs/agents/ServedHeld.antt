@@ -84,9 +84,6 @@ IsFinalOut k (out.Direct to bytes) = ⊥
 abbrev pub Says : Key → List CallOut → Type 0
 Says k outs = (o : CallOut) × Among outs o × IsFinalOut k o
 
-pub says_left : (k : Key) (xs ys : List CallOut) → Says k xs → Says k (xs ++ ys)
-says_left k xs ys says = (says.0, among_left xs ys says.0 says.1, says.2)
-
 -- it is still held so, or the final response goes out
 pub record Stays (k : Key) (id : Id) (taken : ServedTaken) : Type 0 where
   pub is : Holds k id taken.0.requests ⊎ Says k taken.1
