@@ -1,6 +1,6 @@
 -- What an item or a tick of a call gives to the requests of the peer, and that it gives up none.
 use Rattle.std.proofs.Common.{◌≡◌, ◌⊎◌, inl, inr, ⊎_elim, ℕ, Bool, true, false, List, [], ◌∷◌, ◌++◌, map, refl, sym, ap, ◌∙◌, subst, arith}
-use Rattle.std.specs.Prelude.{◌&&◌, cond, codes, not, nat_le, nat_lt, Option, None, Some, filter, is_none}
+use Rattle.std.specs.Prelude.{◌&&◌, cond, codes, not, nat_le, nat_lt, Option, None, Some, filter, is_none, if◌then◌else◌}
 use Rattle.std.specs.List.{AllByRecursion}
 use Rattle.std.specs.Option.{option_map_or, option_to_list}
 use Rattle.std.specs.Str.{str_to_ascii_lowercase}
@@ -30,8 +30,8 @@ use Rattle.sip_user.specs.declared.item.Item.TheVariants.{Up, User}
 use Rattle.sip_clients.specs.Abandon.{end_command}
 use Rattle.sip_clients.proofs.ClientOuts.{Allows, response_told}
 use Rattle.sip_clients.proofs.RuleResponses.{response_same}
-use Rattle.sip_clients.specs.Client.{ClientTaken}
-use Rattle.sip_clients.specs.Rules.Ends.{request_is_lost}
+use Rattle.sip_clients.specs.Client.{ClientTaken, Side}
+use Rattle.sip_clients.specs.Rules.Ends.{request_is_lost, request_over}
 use Rattle.sip_clients.specs.Outputs.{start_command}
 use Rattle.sip_clients.specs.declared.client.Client.{Client}
 use Rattle.sip_clients.specs.declared.event.Event.{Event}
@@ -49,13 +49,19 @@ use Rattle.sip_calls.proofs.HeldRequests.{kept_requests, requests_of}
 use Rattle.sip_calls.proofs.SameSteps.{same_step}
 use Rattle.sip_agent_laws.specs.Calls.Commanded.{is_notice}
 use Rattle.sip_agent_laws.specs.Repeats.Repeats.{is_due, is_provisional_due, provisionals_due, responses_to, success_due}
-use Rattle.sip_agent_laws.proofs.agents.Idle.{lost_silent}
-use Rattle.sip_agent_laws.proofs.agents.Lists.{Among, among_either, among_kept, by_found, each_of, flat_among, kept_among, mapped_among}
+use Rattle.sip_agent_laws.proofs.agents.Lists.{Among, among_either, among_kept, by_found, each_of, flat_among, kept_among, mapped_among, by_if}
 use Rattle.sip_agent_laws.proofs.agents.OpenLives.{is_server}
-use Rattle.sip_agent_laws.proofs.agents.ServedFrom.{Goes, Serves, ack_serves, no_command, request_serves, respond_serves, serves_same, ticked_from}
+use Rattle.sip_agent_laws.proofs.agents.ServedFrom.{Goes, IsTaken, Serves, ack_serves, both_silent, ended_silent, no_command, notices_silent, request_serves, respond_serves, serves_same, tick_stays, ticked_from}
+use Rattle.sip_agent_laws.proofs.agents.ServedHeld.{Holds, Says}
+use Rattle.sip_agent_laws.proofs.agents.Commands.{orders}
 use Rattle.sip_agent_laws.proofs.calls.EachItem.{Passes, command_passes, first_passes, item_passes}
 use Rattle.sip_agent_laws.proofs.calls.ServerOuts.{Any, kind_passes, respond_passes}
 use Rattle.sip_agent_laws.proofs.repeats.Repeats.{sent_again}
+use Rattle.sip_held_dialogs.specs.Dialogs.{Dialogs, early_ended, is_early_of, ended_at, lives}
+use Rattle.sip_held_dialogs.specs.declared.held_dialog.DialogReference.{DialogReference}
+use Rattle.sip_clients.specs.Rules.Requests.{dialog_of_kind}
+use Rattle.std.specs.Map.{values_of, lookup}
+use Rattle.sip_held_dialogs.specs.Ids.{is_id}
 
 -- the request that an input brings, by its id and its key
 abbrev came_by : AnUp → UpKind → Option (Id × Key)
@@ -172,15 +178,39 @@ module _ (before : List HeldRequest) (rise : IdsRise (map (λ held. held.id) bef
         subst (λ requests. Serves before came now requests taken.1) (sym (kept_requests taken.0))
         serves
 
-same_serves : (call : Call) (came : Option (Id × Key)) (now : ℕ) (taken : CallTaken)
+same_serves : (call : Call) (now : ℕ) (taken : CallTaken)
     → requests_of taken.0 ≡ requests_of call
     → ((id : Id) (key : Key) (message : Message)
     → Among taken.1 (out.Command id (order.Answer key message)) → ⊥)
-    → ServesIn (requests_of call) came now taken
-same_serves call came now taken same none =
-    subst (λ requests. Serves (requests_of call) came now requests taken.1) (sym same)
-    (serves_same now taken.1 (requests_of call) came
-    (λ id key message among. absurd (none id key message among)))
+    → ServesIn (requests_of call) None now taken
+same_serves call now taken same none =
+    subst (λ requests. Serves (requests_of call) None now requests taken.1) (sym same)
+    (serves_same now taken.1 (requests_of call) none)
+
+-- the loss of a request of the call gives no commands
+over_silent : (client : Client) (ends : Bool) (dialogs : Dialogs)
+    → orders (request_over client ends dialogs).1 ≡ []
+over_silent client ends dialogs =
+    let early = early_ended client.id dialogs in
+    both_silent early.1 _
+    (notices_silent (filter (is_early_of client.id) (values_of dialogs)))
+    (by_found (λ (ended : Dialogs × List CallOut). orders ended.1 ≡ [])
+    (λ (reference : DialogReference). if ends && lives early.0 reference
+    then ended_at reference.name early.0 else (early.0, []))
+    (dialog_of_kind client.kind) (early.0, [])
+    (λ reference is. by_if (λ (ended : Dialogs × List CallOut). orders ended.1 ≡ [])
+    (ends && lives early.0 reference) (ended_at reference.name early.0) (early.0, [])
+    (λ over. ended_silent reference.name early.0) (λ lives. refl))
+    (λ none. refl))
+
+pub lost_silent : (id : Id) (timed_out : Bool) (side : Side)
+    → orders (request_is_lost id timed_out side).1 ≡ []
+unfolding request_is_lost
+lost_silent id timed_out side =
+    by_found (λ (ended : Dialogs × List CallOut). orders ended.1 ≡ [])
+    (λ client. request_over client timed_out side.dialogs) (lookup (is_id id) side.clients)
+    (side.dialogs, []) (λ client is. over_silent client timed_out side.dialogs)
+    (λ none. refl)
 
 lost_serves : (call : Call) (event : Event) (up : AnUp) (timed_out : Bool) (notice : CallOut)
     (id : Id) (c : Command) → (notice ≡ out.Command id c → ⊥)
@@ -198,15 +228,15 @@ received_serves call event up (kind.Request request reply_to) rise =
 received_serves call event up (kind.Ack ack) rise =
     ack_serves call.served up.call_id ack event.moment
 received_serves call event up (kind.Response response) rise =
-    same_serves call None event.moment (received call event up (kind.Response response)) refl
+    same_serves call event.moment (received call event up (kind.Response response)) refl
     (no_answer (received call event up (kind.Response response)).1
     (response_outs call event up response))
 received_serves call event up kind.Timeout rise =
-    same_serves call None event.moment (received call event up kind.Timeout) refl
+    same_serves call event.moment (received call event up kind.Timeout) refl
     (λ id key message among. lost_serves call event up true _ id (order.Answer key message)
     (λ same. absurd cc) among)
 received_serves call event up kind.Failed rise =
-    same_serves call None event.moment (received call event up kind.Failed) refl
+    same_serves call event.moment (received call event up kind.Failed) refl
     (λ id key message among. lost_serves call event up false _ id (order.Answer key message)
     (λ same. absurd cc) among)
 
@@ -217,10 +247,9 @@ other_serves : (calls : Calls) (state : Option Call) (event : Id) (c : UserComma
 other_serves calls state event c now other =
     subst (λ requests. Serves (requests_held state) None now requests
     (call_step calls state (Some (event, User c)) now).1) (sym (same state))
-    (serves_same now (call_step calls state (Some (event, User c)) now).1 (requests_held state) None
-    (λ id key message among. absurd (no_answer
-    (call_step calls state (Some (event, User c)) now).1
-    (command_outs calls state event c now other) id key message among)))
+    (serves_same now (call_step calls state (Some (event, User c)) now).1 (requests_held state)
+    (no_answer (call_step calls state (Some (event, User c)) now).1
+    (command_outs calls state event c now other)))
   where
     same : (state : Option Call) → requests_held (call_step calls state (Some (event, User c)) now).0
         ≡ requests_held state
@@ -253,7 +282,7 @@ item_serves calls None event (User (user.Respond respond)) now rise =
     kept_serves [] rise now None
     (item_of_call false (new_call calls.local) (event_of calls event now)
     (User (user.Respond respond)))
-    (serves_same now _ [] None
+    (serves_same now _ []
     (λ id key message among. ⊎_elim (λ same. absurd cc) (λ none. absurd none) among))
 item_serves calls state event (User (user.Invite invite)) now rise =
     other_serves calls state event (user.Invite invite) now (λ respond same. absurd cc)
@@ -307,6 +336,36 @@ tick_from calls None now outs held among = absurd among
 tick_from calls (Some call) now outs held among =
     ticked_from call.served now outs held
     (subst (λ requests. Among requests held) (kept_requests (call_tick call now).0) among)
+
+pub tick_served : (k : Key) (id : Id) (calls : Calls) (call : Option Call) (now : ℕ)
+    → Holds k id (requests_held call)
+    → Holds k id (requests_held (call_step calls call None now).0)
+tick_served k id calls None now ours = absurd ours.1
+tick_served k id calls (Some call) now ours =
+    subst (Holds k id) (sym (kept_requests (call_tick call now).0))
+    (tick_stays k id call.served now ours)
+
+-- a request without a final response stays so, or one goes out
+pub step_stays : (k : Key) (id : Id) (calls : Calls) (state : Option Call) (input : Option CallItem)
+    (now : ℕ) → IdsRise (map (λ held. held.id) (requests_held state))
+    → Holds k id (requests_held state)
+    → Holds k id (requests_held (call_step calls state input now).0)
+    ⊎ Says k (call_step calls state input now).1
+step_stays k id calls state None now rise ours = inl (tick_served k id calls state now ours)
+step_stays k id calls state (Some (event, item)) now rise ours =
+    (item_serves calls state event item now rise).keeps k id ours
+
+-- so does one that comes
+pub step_takes : (k : Key) (id : Id) (calls : Calls) (state : Option Call) (input : Option CallItem)
+    (now : ℕ) → IdsRise (map (λ held. held.id) (requests_held state))
+    → came_with input ≡ Some (id, k)
+    → Holds k id (requests_held (call_step calls state input now).0)
+    ⊎ Says k (call_step calls state input now).1
+step_takes k id calls state None now rise came = absurd cc
+step_takes k id calls state (Some (event, item)) now rise came =
+    subst (λ came. IsTaken came (requests_held (call_step calls state (Some (event, item)) now).0)
+    (call_step calls state (Some (event, item)) now).1) came
+    (item_serves calls state event item now rise).takes
 
 -- a response that a tick sends again: a provisional one, or a 2xx before its end
 abbrev pub IsSentAgain : ℕ → HeldRequest → Message → Type 0

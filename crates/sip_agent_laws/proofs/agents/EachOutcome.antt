@@ -55,7 +55,7 @@ use Rattle.sip_agent_laws.specs.Agents.Outcomes.{Sends, is_given_up, outcomes_to
 use Rattle.sip_agent_laws.proofs.agents.ClientsHeld.{Abandons, Holds, IsCommanded, is_invite_key}
 use Rattle.sip_agent_laws.proofs.agents.Apart.{starts_from}
 use Rattle.sip_agent_laws.proofs.agents.CallHeld.{tick_asked}
-use Rattle.sip_agent_laws.proofs.agents.Commands.{IsAbandonOf}
+use Rattle.sip_agent_laws.proofs.agents.Commands.{IsAbandonOf, orders}
 use Rattle.sip_agent_laws.proofs.agents.EndTold.{IsTold, items_told, told_right}
 use Rattle.sip_agent_laws.proofs.agents.Going.{GoesOn, IsGoing, IsNew, ends_ticked, goes_run, going_new, items_then, new_run, none_at, none_then, ticked}
 use Rattle.sip_agent_laws.proofs.agents.Items.{item_given, requests_among, up_among}
@@ -63,7 +63,7 @@ use Rattle.sip_agent_laws.proofs.agents.Linked.{IsLinked, after_is, calls_in, ca
 use Rattle.sip_agent_laws.proofs.agents.LinkedRounds.{IsFair, all_fair, fair_next, linked_next, nothing_linked}
 use Rattle.sip_agent_laws.proofs.agents.Lists.{Among, among_flat, among_kept, among_left, among_mapped, among_right}
 use Rattle.sip_agent_laws.proofs.agents.OpenLives.{is_server}
-use Rattle.sip_agent_laws.proofs.agents.SecondPhase.{fewer_counted, no_abandon, orders, says}
+use Rattle.sip_agent_laws.proofs.agents.SecondPhase.{fewer_counted, no_abandon, says}
 use Rattle.sip_agent_laws.proofs.transactions.Inputs.{HeldIn}
 
 -- ---- the transaction of a command

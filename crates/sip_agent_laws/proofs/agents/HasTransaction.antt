@@ -57,16 +57,17 @@ use Rattle.sip_round.specs.Answers.{Past, calls_of, no_past, past_after}
 use Rattle.sip_round.specs.Outputs.{joined}
 use Rattle.sip_round.specs.Phases.{call_items, transaction_items}
 use Rattle.sip_agent_laws.proofs.agents.CallServes.{IsSentAgain, Spares, came_with, item_serves, item_spares, tick_from, tick_gives}
-use Rattle.sip_agent_laws.proofs.agents.Commands.{ordered, run}
+use Rattle.sip_agent_laws.proofs.agents.Commands.{ordered, run, orders}
 use Rattle.sip_agent_laws.proofs.agents.Idle.{IsReport, all_joined, tick_reports}
 use Rattle.sip_agent_laws.proofs.agents.Items.{ItemIs, items_all}
 use Rattle.sip_agent_laws.proofs.agents.Linked.{after_is, calls_after_is, calls_in, calls_ticked, came_in, first_items, first_told, given_is, items, items_are, lives_between, lives_in, lives_ticked, no_events, second_items, second_ticks}
 use Rattle.sip_agent_laws.proofs.agents.Lists.{Among, among_left, among_right, each_of, flat_among, mapped_among, same_some}
 use Rattle.sip_agent_laws.proofs.agents.OpenLives.{is_server}
-use Rattle.sip_agent_laws.proofs.agents.SecondPhase.{CallItems, CallStates, after_item, among_orders, here, in_parts, orders, says}
+use Rattle.sip_agent_laws.proofs.agents.SecondPhase.{CallItems, CallStates, after_item, among_orders, here, in_parts, says}
 use Rattle.sip_agent_laws.proofs.agents.ServedFrom.{AreEarly, Goes, IsAnswered, IsEarly, IsNew, Serves}
 use Rattle.sip_agent_laws.proofs.agents.ServerLives.{AreOpen, Opens, Outlasts, Shuts, UpOpens, answered_on, arrival_outlasts, kept_then, never_both, open_on, open_then, serves_open, serves_shut, shut_on, ups_open}
-use Rattle.sip_agent_laws.proofs.agents.Sound.{Behind, after_one, behind_rise, first_rise, less_itself, one_more, own_first, own_other}
+use Rattle.sip_agent_laws.proofs.agents.ServedHeld.{less_itself}
+use Rattle.sip_agent_laws.proofs.agents.Sound.{Behind, after_one, behind_rise, first_rise, one_more, own_first, own_other}
 
 -- ---- what a held request has
 

@@ -1,11 +1,9 @@
 -- A round without events: each call takes a tick and reports of transactions that timed out.
-use Rattle.std.proofs.Common.{◌≡◌, ℕ, suc, Bool, true, false, cond, List, [], ◌∷◌, ◌++◌, map, refl, sym, ap, ◌∙◌, append-nil, subst}
-use Rattle.std.specs.Prelude.{◌&&◌, Option, None, Some, filter, if◌then◌else◌}
+use Rattle.std.proofs.Common.{◌≡◌, ℕ, suc, true, false, cond, List, [], ◌∷◌, map, refl, sym, ap, ◌∙◌, append-nil, subst}
+use Rattle.std.specs.Prelude.{Option, None, Some, filter}
 use Rattle.std.specs.BTreeMap.{is_at}
 use Rattle.std.specs.List.{AllByRecursion, flat_map}
-use Rattle.std.specs.Map.{lookup, values_of}
 use Rattle.std.specs.declared.cmp.Ordering.{Ordering}
-use Rattle.std.proofs.lemmas.Grind.{flat_map-append}
 use Rattle.sip_message.specs.Key.{key_cmp}
 use Rattle.sip_message.specs.declared.id.Id.{Id}
 use Rattle.sip_message.specs.declared.key.Key.{Key}
@@ -23,18 +21,8 @@ use Rattle.sip_transactions.specs.declared.output.UpKind.TheVariants as kind
 use Rattle.sip_transactions.specs.Machine.{transaction_machine}
 use Rattle.sip_agent_laws.specs.Transactions.Timers.{IsQuiet, TicksAreQuiet}
 use Rattle.sip_agent_laws.proofs.transactions.Ticks as ticks
-use Rattle.sip_user.specs.declared.item.CallOut.{CallOut}
 use Rattle.sip_user.specs.declared.item.Item.{Item}
 use Rattle.sip_user.specs.declared.item.Item.TheVariants.{Up, User}
-use Rattle.sip_held_dialogs.specs.declared.held_dialog.DialogId.{DialogId}
-use Rattle.sip_held_dialogs.specs.declared.held_dialog.DialogReference.{DialogReference}
-use Rattle.sip_held_dialogs.specs.declared.held_dialog.HeldDialog.{HeldDialog}
-use Rattle.sip_held_dialogs.specs.Dialogs.{Dialogs, dialog_at, early_ended, ended_at, ended_notice, is_early_of, lives}
-use Rattle.sip_held_dialogs.specs.Ids.{is_id}
-use Rattle.sip_clients.specs.declared.client.Client.{Client}
-use Rattle.sip_clients.specs.Client.{Side}
-use Rattle.sip_clients.specs.Rules.Ends.{request_is_lost, request_over}
-use Rattle.sip_clients.specs.Rules.Requests.{dialog_of_kind}
 use Rattle.sip_calls.specs.declared.call.Call.{Call}
 use Rattle.sip_calls.specs.declared.calls.Calls.{Calls}
 use Rattle.sip_calls.specs.Call.{CallItem, call_machine, call_step, event_of, new_call, received}
@@ -45,12 +33,15 @@ use Rattle.sip_round.specs.declared.config.Config.{Config}
 use Rattle.sip_round.specs.declared.round.Round.{Round}
 use Rattle.sip_round.specs.Answers.{Past, calls_of, items_first, items_of_round}
 use Rattle.sip_round.specs.Arrivals.{Arrival, arrivals_from}
-use Rattle.sip_round.specs.Outputs.{command_of, joined, raised_of}
+use Rattle.sip_round.specs.Outputs.{joined, raised_of}
 use Rattle.sip_round.specs.Phases.{call_items, transaction_items}
+use Rattle.sip_agent_laws.proofs.agents.Commands.{orders}
 use Rattle.sip_agent_laws.proofs.agents.Items.{ItemIs, all_given, items_all}
 use Rattle.sip_agent_laws.proofs.agents.Linked.{calls_ticked, came_in, first_ticks, first_told, items_are, lives_in, lives_ticked, second_items}
-use Rattle.sip_agent_laws.proofs.agents.Lists.{both, by_found, by_if}
-use Rattle.sip_agent_laws.proofs.agents.SecondPhase.{CallItems, CallStates, orders, says}
+use Rattle.sip_agent_laws.proofs.agents.CallServes.{lost_silent}
+use Rattle.sip_agent_laws.proofs.agents.ServedFrom.{both_silent}
+use Rattle.sip_agent_laws.proofs.agents.Lists.{both}
+use Rattle.sip_agent_laws.proofs.agents.SecondPhase.{CallItems, CallStates, says}
 
 -- ---- what comes up
 
@@ -188,43 +179,6 @@ inside_only config number past round none q =
     (no_users config number past round none))
 
 -- ---- what calls say to reports: no commands
-
-pub both_silent : (xs ys : List CallOut) → orders xs ≡ [] → orders ys ≡ [] → orders (xs ++ ys) ≡ []
-both_silent xs ys one other =
-    flat_map-append command_of xs ys ∙ (λ i. one i ++ other i)
-
-pub notices_silent : (ended : List HeldDialog) → orders (map ended_notice ended) ≡ []
-notices_silent [] = refl
-notices_silent (held ∷ ended) = notices_silent ended
-
-pub ended_silent : (name : DialogId) (dialogs : Dialogs) → orders (ended_at name dialogs).1 ≡ []
-ended_silent name dialogs =
-    by_found (λ outs. orders outs ≡ []) (λ held. ended_notice held ∷ []) (dialog_at name dialogs) []
-    (λ held is. refl) (λ none. refl)
-
-over_silent : (client : Client) (ends : Bool) (dialogs : Dialogs)
-    → orders (request_over client ends dialogs).1 ≡ []
-over_silent client ends dialogs =
-    let early = early_ended client.id dialogs in
-    both_silent early.1 _
-    (notices_silent (filter (is_early_of client.id) (values_of dialogs)))
-    (by_found (λ (ended : Dialogs × List CallOut). orders ended.1 ≡ [])
-    (λ (reference : DialogReference). if ends && lives early.0 reference
-    then ended_at reference.name early.0 else (early.0, []))
-    (dialog_of_kind client.kind) (early.0, [])
-    (λ reference is. by_if (λ (ended : Dialogs × List CallOut). orders ended.1 ≡ [])
-    (ends && lives early.0 reference) (ended_at reference.name early.0) (early.0, [])
-    (λ over. ended_silent reference.name early.0) (λ lives. refl))
-    (λ none. refl))
-
-pub lost_silent : (id : Id) (timed_out : Bool) (side : Side)
-    → orders (request_is_lost id timed_out side).1 ≡ []
-unfolding request_is_lost
-lost_silent id timed_out side =
-    by_found (λ (ended : Dialogs × List CallOut). orders ended.1 ≡ [])
-    (λ client. request_over client timed_out side.dialogs) (lookup (is_id id) side.clients)
-    (side.dialogs, []) (λ client is. over_silent client timed_out side.dialogs)
-    (λ none. refl)
 
 timeout_silent : (calls : Calls) (call : Call) (id : Id) (now : ℕ) (up : AnUp)
     → up.kind ≡ kind.Timeout

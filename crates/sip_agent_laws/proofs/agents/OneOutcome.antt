@@ -56,7 +56,7 @@ use Rattle.sip_agent_laws.specs.Agents.Open.{is_open}
 use Rattle.sip_agent_laws.specs.Agents.Outcomes.{AtMostOneIsTold, EachRequestHasOneOutcome, outcomes_told, tells_outcome}
 use Rattle.sip_agent_laws.specs.Transactions.Outcomes.{is_outcome}
 use Rattle.sip_agent_laws.proofs.agents.Apart.{requests_from, starts_from}
-use Rattle.sip_agent_laws.proofs.agents.Commands.{run, run_on}
+use Rattle.sip_agent_laws.proofs.agents.Commands.{run, run_on, orders}
 use Rattle.sip_agent_laws.proofs.agents.EachOutcome.{each_has_an_outcome, number_from, walk}
 use Rattle.sip_agent_laws.proofs.agents.FirstOuts.{KindIsFrom, OutIsFrom, items_from, received_ticked, started_ticked, ticks_from}
 use Rattle.sip_agent_laws.proofs.agents.Going.{open_lacks}
@@ -66,7 +66,7 @@ use Rattle.sip_agent_laws.proofs.agents.LinkedRounds.{IsFair, all_fair, apart_no
 use Rattle.sip_agent_laws.proofs.agents.Lists.{Among, among_left}
 use Rattle.sip_agent_laws.proofs.agents.OneUp.{came, count_both, count_first, count_less, count_miss, items_once, left, mine, one_step, ticks_once}
 use Rattle.sip_agent_laws.proofs.agents.OpenLives.{is_server}
-use Rattle.sip_agent_laws.proofs.agents.SecondPhase.{among_ids, among_orders, among_starts, only_key, orders, says, some_counted}
+use Rattle.sip_agent_laws.proofs.agents.SecondPhase.{among_ids, among_orders, among_starts, only_key, says, some_counted}
 use Rattle.sip_agent_laws.proofs.calls.OneTold.{brings_outcome, counted, one_told, tells_of}
 use Rattle.sip_agent_laws.proofs.transactions.Ends.{lack, lacks}
 

@@ -1,13 +1,12 @@
 -- Where each request of the peer that is held after an input comes from, and each response that
 -- goes out.
-use Rattle.std.proofs.Common.{◌≡◌, ◌⊎◌, inl, inr, ⊎_elim, ℕ, ◌+◌, Bool, true, false, ◌&&◌, ◌||◌, List, [], ◌∷◌, map, refl, sym, ap, ◌∙◌, subst, arith}
+use Rattle.std.proofs.Common.{◌≡◌, ◌⊎◌, inl, inr, ⊎_elim, ℕ, ◌+◌, Bool, true, false, ◌&&◌, ◌||◌, List, [], ◌∷◌, map, refl, sym, ap, ◌∙◌, subst, arith, ◌++◌}
 use Rattle.std.specs.Prelude.{◌==◌, Option, None, Some, find, filter, reverse, codes, nat_le, nat_lt, is_none, is_some, not, if◌then◌else◌}
 use Rattle.std.specs.List.{AllByRecursion, list_any}
-use Rattle.std.specs.List.Sorted.{IsStrictlySortedBy}
 use Rattle.std.specs.Map.{values_of}
 use Rattle.std.specs.Option.{option_map, option_map_or}
 use Rattle.std.proofs.lemmas.Bool.{false≢true}
-use Rattle.std.proofs.lemmas.Grind.{common_steps}
+use Rattle.std.proofs.lemmas.Grind.{common_steps, flat_map-append}
 use Rattle.keyed_machine.proofs.Ordered.{by_bool}
 use Rattle.sip_message.specs.Response.{response_of}
 use Rattle.sip_message.specs.declared.id.Id.{Id}
@@ -31,80 +30,28 @@ use Rattle.sip_user.specs.declared.refusal.Refusal.{Refusal}
 use Rattle.sip_user.specs.declared.refusal.Refusal.TheVariants.{AlreadyFinal}
 use Rattle.sip_held_dialogs.specs.declared.held_dialog.DialogId.{DialogId}
 use Rattle.sip_held_dialogs.specs.declared.held_dialog.HeldDialog.{HeldDialog}
-use Rattle.sip_held_dialogs.specs.Dialogs.{Dialogs, dialog_at, dialog_changed, early_ended, ended_at, is_early_of}
+use Rattle.sip_held_dialogs.specs.Dialogs.{Dialogs, dialog_at, dialog_changed, early_ended, ended_at, is_early_of, ended_notice}
 use Rattle.sip_held_dialogs.specs.Ids.{is_id}
 use Rattle.sip_held_dialogs.specs.Requests.{dialog_id_of, has_to_tag, is_bye, is_cancel, is_final, is_invite, is_prack, is_provisional, is_success, is_unknown_option}
 use Rattle.sip_held_dialogs.proofs.Each.{filtered}
 use Rattle.sip_served.specs.declared.arrival.Arrival.{Arrival}
 use Rattle.sip_served.specs.declared.held_request.HeldRequest.{HeldRequest}
 use Rattle.sip_served.specs.declared.held_request.Success.{Success}
-use Rattle.sip_served.specs.Rules.Arrivals.{after_487, after_ack, after_prack, after_request, ack_for, ack_received, bad_extension, awaits, cancel_for, cancel_received, is_above, is_merged, is_named_by, is_same_branch, no_such_call, prack_for, prack_received, request_for_user, request_in_dialog, request_received}
-use Rattle.sip_served.specs.Rules.Responses.{dialogs_after, held_after, is_sent_reliably, makes_dialog, refuse, respond_command, respond_to, response_refusal, response_sent, success_sent}
+use Rattle.sip_served.specs.Rules.Arrivals.{after_487, after_ack, after_prack, after_request, ack_for, ack_received, bad_extension, awaits, cancel_for, cancel_received, is_above, is_merged, is_named_by, is_same_branch, no_such_call, prack_for, prack_received, request_for_user, request_in_dialog, request_received, own_response}
+use Rattle.sip_served.specs.Rules.Responses.{dialogs_after, held_after, is_sent_reliably, makes_dialog, refuse, respond_command, respond_to, response_refusal, response_sent, success_sent, is_dialog_response}
 use Rattle.sip_served.specs.Rules.Ticks.{provisionals_tick, server_tick, success_at, success_tick}
 use Rattle.sip_served.specs.declared.held_request.SuccessEnd.{SuccessEnd}
 use Rattle.sip_served.specs.declared.held_request.SuccessEnd.TheVariants.{Acknowledged, GivenUp}
-use Rattle.sip_served.specs.State.{State, ServedTaken, changed_at, changed_first, has_id}
-use Rattle.sip_clients.proofs.FirstInvite.{id_exact}
+use Rattle.sip_served.specs.State.{State, ServedTaken, changed_at, has_id}
 use Rattle.sip_agent_laws.specs.Transactions.Outcomes.{is_provisional as is_provisional_line}
+use Rattle.sip_agent_laws.proofs.agents.Commands.{ordered_among, orders, IsFinal}
 use Rattle.sip_agent_laws.proofs.agents.ClientsHeld.{id_itself}
-use Rattle.sip_agent_laws.proofs.agents.Idle.{ended_silent, notices_silent}
-use Rattle.sip_agent_laws.proofs.agents.Lists.{Among, among_either, both, by_found, by_if, found_among, found_passes, kept_among, mapped_among, reverse_among, same_some}
-use Rattle.sip_agent_laws.proofs.agents.SecondPhase.{ordered_among, orders}
-use Rattle.sip_agent_laws.proofs.agents.ServedHeld.{sent_start}
-use Rattle.sip_agent_laws.proofs.agents.Sound.{above, apart_of, not_less}
-
--- ---- lists with one change
-
-changed_from : {X : Type 0} (test : X → Bool) (f : X → X) (xs : List X) (x : X)
-    → Among (changed_first test f xs) x
-    → Among xs x ⊎ (y : X) × (find test xs ≡ Some y) × (x ≡ f y)
-changed_from test f [] x among = absurd among
-changed_from test f (y ∷ ys) x among =
-    by (test y) refl among (changed_from test f ys x)
-  where
-    by : (b : Bool) → test y ≡ b
-        → Among (if b then f y ∷ ys else y ∷ changed_first test f ys) x
-        → (Among (changed_first test f ys) x
-        → Among ys x ⊎ (z : _) × (find test ys ≡ Some z) × (x ≡ f z))
-        → Among (y ∷ ys) x
-        ⊎ (z : _) × ((if b then Some y else find test ys) ≡ Some z) × (x ≡ f z)
-    by true is (inl same) rest = inr (y, refl, sym same)
-    by true is (inr later) rest = inl (inr later)
-    by false is (inl same) rest = inl (inl same)
-    by false is (inr later) rest =
-        ⊎_elim (λ here. inl (inr here)) (λ found. inr found) (rest later)
-
--- of requests that are held by rising ids, at most one with the id of the change is left: the
--- changed one
-changed_once : (id : Id) (f : HeldRequest → HeldRequest) (requests : List HeldRequest)
-    → IdsRise (map (λ held. held.id) requests) → (x : HeldRequest)
-    → Among (changed_at id f requests) x → is_id x.id id ≡ true
-    → (y : HeldRequest) × (find (has_id id) requests ≡ Some y) × (x ≡ f y)
-unfolding IsStrictlySortedBy
-changed_once id f [] rise x among is = absurd among
-changed_once id f (y ∷ ys) rise x among is =
-    by (has_id id y) refl among (changed_once id f ys rise.1 x)
-    (changed_from (has_id id) f ys x)
-  where
-    Found : Option HeldRequest → Type 0
-    Found o = (z : HeldRequest) × (o ≡ Some z) × (x ≡ f z)
-
-    later_id : is_id y.id id ≡ true → Among ys x → ⊥
-    later_id same later =
-        let here : is_id y.id x.id ≡ true =
-        ap (λ i. is_id y.id i) (id_exact x.id id is) ∙ same in
-        not_less y.id x.id here (above y.id ys x rise.0 later)
-
-    by : (b : Bool) → has_id id y ≡ b → Among (if b then f y ∷ ys else y ∷ changed_at id f ys) x
-        → (Among (changed_at id f ys) x → is_id x.id id ≡ true → Found (find (has_id id) ys))
-        → (Among (changed_at id f ys) x
-        → Among ys x ⊎ (z : HeldRequest) × (find (has_id id) ys ≡ Some z) × (x ≡ f z))
-        → Found (if b then Some y else find (has_id id) ys)
-    by true same (inl first) more from = (y, refl, sym first)
-    by true same (inr later) more from = absurd (later_id same later)
-    by false other (inl first) more from =
-        absurd (false≢true (sym other ∙ (ap (λ (h : HeldRequest). is_id h.id id) first ∙ is)))
-    by false other (inr later) more from = more later is
+use Rattle.sip_agent_laws.proofs.agents.Lists.{Among, among_either, both, by_found, by_if, found_among, found_passes, kept_among, mapped_among, reverse_among, same_some, among_left, among_kept, among_right, among_mapped}
+use Rattle.sip_agent_laws.proofs.agents.ServedHeld.{Holds, IsIt, Says, apart_of, changed_from, changed_holds, changed_once, changed_or}
+use Rattle.sip_message.specs.declared.addr.Addr.{Addr}
+use Rattle.sip_message.specs.Content.{with_content_of}
+use Rattle.sip_round.specs.Outputs.{command_of}
+use Rattle.sip_dialog.specs.Request.{contact_of}
 
 -- ---- what happens to a request
 
@@ -159,9 +106,14 @@ pub record IsAnswered (before after : List HeldRequest) (id : Id) (key : Key) : 
   pub unanswered : held.removal ≡ None
   pub none : (other : HeldRequest) → Among after other → other.id ≡ id → other.removal ≡ None → ⊥
 
+-- the request that comes is held so, or a final response goes out
+abbrev pub IsTaken : Option (Id × Key) → List HeldRequest → List CallOut → Type 0
+IsTaken None after outs = Unit {0}
+IsTaken (Some (id, key)) after outs = Holds key id after ⊎ Says key outs
+
 -- An input that brings this request, or none: each request that is held then was held before, or
 -- just came up. Each response that goes out is provisional, or to the request that it brings, or to
--- one without a final response.
+-- one without a final response; and each without one stays so until one goes out.
 pub record Serves (before : List HeldRequest) (came : Option (Id × Key)) (now : ℕ)
     (after : List HeldRequest) (outs : List CallOut) : Type 0 where
   pub each : (held : HeldRequest) → Among after held
@@ -169,6 +121,21 @@ pub record Serves (before : List HeldRequest) (came : Option (Id × Key)) (now :
   pub answers : (id : Id) (key : Key) (message : Message)
       → Among outs (out.Command id (command.Answer key message))
       → IsEarly message ⊎ ((came ≡ Some (id, key)) ⊎ IsAnswered before after id key)
+  pub keeps : (k : Key) (id : Id) → Holds k id before → Holds k id after ⊎ Says k outs
+  pub takes : IsTaken came after outs
+
+pub both_silent : (xs ys : List CallOut) → orders xs ≡ [] → orders ys ≡ [] → orders (xs ++ ys) ≡ []
+both_silent xs ys one other =
+    flat_map-append command_of xs ys ∙ (λ i. one i ++ other i)
+
+pub notices_silent : (ended : List HeldDialog) → orders (map ended_notice ended) ≡ []
+notices_silent [] = refl
+notices_silent (held ∷ ended) = notices_silent ended
+
+pub ended_silent : (name : DialogId) (dialogs : Dialogs) → orders (ended_at name dialogs).1 ≡ []
+ended_silent name dialogs =
+    by_found (λ outs. orders outs ≡ []) (λ held. ended_notice held ∷ []) (dialog_at name dialogs) []
+    (λ held is. refl) (λ none. refl)
 
 some_moment : (moment : ℕ) → Some moment ≡ None → ⊥
 some_moment moment same = absurd cc
@@ -203,13 +170,15 @@ module _ (now : ℕ) (outs : List CallOut) where
       changed_goes held held refl refl (λ lacks. lacks) refl (inl refl) (λ early. early)
 
   -- nothing changes
-  pub serves_same : (requests : List HeldRequest) (came : Option (Id × Key))
+  pub serves_same : (requests : List HeldRequest)
       → ((id : Id) (key : Key) (message : Message)
-      → Among outs (out.Command id (command.Answer key message)) → came ≡ Some (id, key))
-      → Serves requests came now requests outs
-  serves_same requests came own = record {
+      → Among outs (out.Command id (command.Answer key message)) → ⊥)
+      → Serves requests None now requests outs
+  serves_same requests none = record {
     each = λ held among. inr (held, among, same_goes held);
-    answers = λ id key message among. inr (inl (own id key message among));
+    answers = λ id key message among. absurd (none id key message among);
+    keeps = λ k id ours. inl ours;
+    takes = tt;
   }
 
   -- one request changes
@@ -239,6 +208,26 @@ own_came own mine response id key message same =
     λ i. Some (this i, its i)
 
 -- ---- the user's response
+
+plain_start : (local : Addr) (held : HeldRequest) (respond : Respond)
+    → (if is_dialog_response held respond.status
+    then record (response_of held.request respond.status respond.reason held.tag) {
+      contacts = contact_of local ∷ [];
+      record_routes = held.request.record_routes;
+    }
+    else response_of held.request respond.status respond.reason held.tag).start
+    ≡ start.Response respond.status respond.reason
+plain_start local held respond =
+    by_if (λ (message : Message). message.start ≡ start.Response respond.status respond.reason)
+    (is_dialog_response held respond.status) _ _ (λ yes. refl) (λ no. refl)
+
+sent_start : (local : Addr) (held : HeldRequest) (respond : Respond)
+    → (response_sent local held respond).start ≡ start.Response respond.status respond.reason
+unfolding with_content_of
+sent_start local held respond =
+    by_if (λ (message : Message). message.start ≡ start.Response respond.status respond.reason)
+    (is_sent_reliably held respond) _ _ (λ yes. plain_start local held respond)
+    (λ no. plain_start local held respond)
 
 two_refusals : (first second : Bool) (one other : Refusal) (rest : Option Refusal)
     → (if first then Some one else if second then Some other else rest) ≡ None → second ≡ false
@@ -275,7 +264,7 @@ module _ (state : State) (event : Id) (respond : Respond) (now : ℕ)
 
   refused_serves : (refusal : Refusal) → Follows (refuse state event respond refusal)
   refused_serves refusal =
-      serves_same now _ state.requests None
+      serves_same now _ state.requests
       (λ id key message among. ⊎_elim (λ same. absurd cc) (λ none. absurd none) among)
 
   module _ (held : HeldRequest) (found : find (has_id respond.id) state.requests ≡ Some held)
@@ -374,6 +363,32 @@ module _ (state : State) (event : Id) (respond : Respond) (now : ℕ)
         not_early : (status : ℕ) → is_provisional status ≡ false → is_final status ≡ false → ⊥
         not_early status late early = grind (arith, common_steps, late, early)
 
+    early_after : is_final respond.status ≡ false → after.removal ≡ None
+    early_after early =
+        let P : HeldRequest → Type 0 = λ changed. changed.removal ≡ None in
+        by_if P (is_sent_reliably held respond) _ _ (λ reliable. lacks)
+        (λ plain. by_if P (is_final respond.status) _ _
+        (λ final. absurd (false≢true (sym early ∙ final))) (λ other. lacks))
+
+    answer_keeps : (k : Key) (id : Id) → Holds k id state.requests
+        → Holds k id (changed_at respond.id (λ _. after) state.requests) ⊎ Says k outs
+    answer_keeps k id ours =
+        ⊎_elim (λ still. inl (ours.0, still, ours.2))
+        (λ changed.
+        let it = subst (IsIt k id) (same_some ours.0 held (sym changed.0 ∙ found)) ours.2 in
+        by_bool (is_final respond.status)
+        (λ final. inr (_, inl refl, (it.key_is, (respond.status, respond.reason, line, final))))
+        (λ early. inl (
+          after,
+          changed.1,
+          record {
+            id_is = sym answered_goes.id_is ∙ it.id_is;
+            key_is = sym answered_goes.key_is ∙ it.key_is;
+            unanswered = early_after early;
+          },
+        )))
+        (changed_or (has_id respond.id) (λ _. after) state.requests ours.0 ours.1)
+
     answer_serves : Serves state.requests None now
         (changed_at respond.id (λ _. after) state.requests) outs
     answer_serves = record {
@@ -401,6 +416,8 @@ module _ (state : State) (event : Id) (respond : Respond) (now : ℕ)
           }))))
           (λ later. absurd (no_command dialogs.1 id (command.Answer key message)
           (dialogs_silent event held respond.status response state.dialogs) later)) among;
+      keeps = answer_keeps;
+      takes = tt;
     }
 
   pub respond_serves : Follows (respond_command state event respond now)
@@ -425,14 +442,24 @@ module _ (state : State) (arrival : Arrival) (now : ℕ)
   Takes taken = Serves state.requests came now taken.0.requests taken.1
 
   -- the agent responds by itself
-  own_serves : (left : State) (response : Message) → left.requests ≡ state.requests
+  own_serves : (left : State) (response : Message) → IsFinal response
+      → left.requests ≡ state.requests
       → Takes (left, out.Command arrival.id (command.Answer arrival.key response) ∷ [])
-  own_serves left response same =
+  own_serves left response final same =
       let outs = out.Command arrival.id (command.Answer arrival.key response) ∷ [] in
-      subst (λ requests. Serves state.requests came now requests outs) (sym same)
-      (serves_same now outs state.requests came (λ id key message among. ⊎_elim
-      (λ is. own_came arrival.id arrival.key response id key message is)
-      (λ none. absurd none) among))
+      subst (λ requests. Serves state.requests came now requests outs) (sym same) (record {
+        each = λ held among. inr (held, among, same_goes now outs held);
+        answers = λ id key message among. ⊎_elim
+            (λ is. inr (inl (own_came arrival.id arrival.key response id key message is)))
+            (λ none. absurd none) among;
+        keeps = λ k id ours. inl ours;
+        takes = inr (_, inl refl, (refl, final));
+      })
+
+  -- so it does by default
+  by_itself : (left : State) (status : ℕ) (reason : List ℕ) → is_final status ≡ true
+      → left.requests ≡ state.requests → Takes (left, own_response arrival status reason)
+  by_itself left status reason final same = own_serves left _ (status, reason, refl, final) same
 
   for_user_serves : (dialogs : Dialogs) (call_id : List ℕ) (name : DialogId)
       → Takes (request_for_user (record state { dialogs = dialogs }) call_id name arrival)
@@ -456,6 +483,12 @@ module _ (state : State) (arrival : Arrival) (now : ℕ)
             (among_either state.requests (_ ∷ []) held among);
         answers = λ id key message among. ⊎_elim (λ same. absurd cc)
             (λ later. absurd (no_command ends.1 id (command.Answer key message) silent later)) among;
+        keeps = λ k id ours. inl (ours.0, among_left state.requests _ ours.0 ours.1, ours.2);
+        takes = inl (
+          _,
+          among_right state.requests _ _ (inl refl),
+          record { id_is = refl; key_is = refl; unanswered = refl },
+        );
       }
 
   prack_serves : (dialogs : Dialogs) (call_id : List ℕ) (rack : RAck) (invite : HeldRequest)
@@ -468,6 +501,13 @@ module _ (state : State) (arrival : Arrival) (now : ℕ)
     answers = λ id key message among. ⊎_elim
         (λ same. inr (inl (own_came arrival.id arrival.key _ id key message same)))
         (λ later. ⊎_elim (λ same. absurd cc) (λ none. absurd none) later) among;
+    keeps = λ k id ours. inl (changed_holds k id (has_id invite.id) (after_prack rack.rseq)
+        state.requests (λ held it. record {
+          id_is = it.id_is;
+          key_is = it.key_is;
+          unanswered = it.unanswered;
+        }) ours);
+    takes = inr (_, inl refl, (refl, (200, codes "OK", refl, refl)));
   }
 
   rack_serves : (dialogs : Dialogs) (call_id : List ℕ) (name : DialogId) (created_by : Id)
@@ -475,13 +515,13 @@ module _ (state : State) (arrival : Arrival) (now : ℕ)
       → Takes (prack_received (record state { dialogs = dialogs }) call_id name created_by arrival
       rack)
   rack_serves dialogs call_id name created_by None =
-      own_serves (record state { dialogs = dialogs }) _ refl
+      by_itself (record state { dialogs = dialogs }) 481 _ refl refl
   rack_serves dialogs call_id name created_by (Some rack) =
       let noted : State = record state { dialogs = dialogs } in
       by_found Takes (prack_for noted call_id arrival rack)
       (find (is_named_by rack name created_by) state.requests) (no_such_call noted arrival)
       (λ invite found. prack_serves dialogs call_id rack invite)
-      (λ none. own_serves noted _ refl)
+      (λ none. by_itself noted 481 _ refl refl)
 
   inside_serves : (call_id : List ℕ) (name : DialogId) (held_dialog : HeldDialog)
       → Takes (request_in_dialog state call_id name arrival held_dialog)
@@ -490,7 +530,7 @@ module _ (state : State) (arrival : Arrival) (now : ℕ)
       let dialogs = dialog_changed name (after_request request) state.dialogs in
       let noted : State = record state { dialogs = dialogs } in
       by_if Takes (not (is_above held_dialog request.cseq.number)) _ _
-      (λ old. own_serves state _ refl)
+      (λ old. by_itself state 500 _ refl refl)
       (λ new. by_if Takes (is_prack request)
       (prack_received noted call_id name held_dialog.created_by arrival request.rack)
       (request_for_user noted call_id name arrival)
@@ -498,7 +538,7 @@ module _ (state : State) (arrival : Arrival) (now : ℕ)
       (λ isnt. for_user_serves dialogs call_id name))
 
   cancelled_serves : (call_id : List ℕ) (held : HeldRequest) → Among state.requests held
-      → held.removal ≡ None → (response : Message) (more : Dialogs × List CallOut)
+      → held.removal ≡ None → (response : Message) → IsFinal response → (more : Dialogs × List CallOut)
       → orders more.1 ≡ []
       → Takes (
         record state {
@@ -510,7 +550,7 @@ module _ (state : State) (arrival : Arrival) (now : ℕ)
             (response_of held.request 487 (codes "Request Terminated") held.tag))
             ∷ out.Notice (notice.Cancel call_id held.id) ∷ more.1,
       )
-  cancelled_serves call_id held among lacks response more silent = record {
+  cancelled_serves call_id held among lacks response final more silent = record {
     each = each_changed now _ state.requests came held.id (after_487 now) (λ old is.
         let same = apart_of state.requests rise old held
         (found_among (has_id held.id) state.requests old is) among
@@ -541,15 +581,30 @@ module _ (state : State) (arrival : Arrival) (now : ℕ)
         (λ rest. ⊎_elim (λ same. absurd cc)
         (λ last. absurd (no_command more.1 id (command.Answer key message) silent last)) rest)
         later) answer;
+    keeps = λ k id ours. ⊎_elim (λ still. inl (ours.0, still, ours.2))
+        (λ changed.
+        let same = apart_of state.requests rise ours.0 held ours.1 among
+        (found_passes (has_id held.id) state.requests ours.0 changed.0) in
+        inr (
+          _,
+          inr (inl refl),
+          (
+            ap (λ (h : HeldRequest). h.key) (sym same) ∙ (ours.2).key_is,
+            (487, codes "Request Terminated", refl, refl),
+          ),
+        ))
+        (changed_or (has_id held.id) (after_487 now) state.requests ours.0 ours.1);
+    takes = inr (_, inl refl, (refl, final));
   }
 
   cancel_serves : (call_id : List ℕ) (held : HeldRequest) → Among state.requests held
       → Takes (cancel_for state call_id arrival now held)
   cancel_serves call_id held among =
       by_if Takes (not (is_invite held.request && is_none held.removal)) _ _
-      (λ other. own_serves state _ refl)
+      (λ other. own_serves state _ (200, _, refl, refl) refl)
       (λ invite. cancelled_serves call_id held among
       (no_moment_of held.removal (and-right (is_invite held.request) _ (not_not _ invite))) _
+      (200, _, refl, refl)
       (early_ended held.id state.dialogs)
       (notices_silent (filter (is_early_of held.id) (values_of state.dialogs))))
     where
@@ -567,7 +622,7 @@ module _ (state : State) (arrival : Arrival) (now : ℕ)
       let request = arrival.request in
       let name = dialog_id_of request arrival.tag in
       let none = no_such_call state arrival in
-      let none_serves : Takes none = own_serves state _ refl in
+      let none_serves : Takes none = by_itself state 481 _ refl refl in
       by_if Takes (is_cancel request) (cancel_received state call_id arrival now) _
       (λ cancel. by_found Takes (cancel_for state call_id arrival now)
       (find (λ held. is_same_branch arrival.key held.key) (reverse state.requests)) none
@@ -576,9 +631,9 @@ module _ (state : State) (arrival : Arrival) (now : ℕ)
       found)))
       (λ no. none_serves))
       (λ c. by_if Takes (not (has_to_tag request) && list_any (is_merged request) state.requests) _ _
-      (λ merged. own_serves state _ refl)
+      (λ merged. by_itself state 482 _ refl refl)
       (λ m. by_if Takes (list_any is_unknown_option request.require) (bad_extension state arrival) _
-      (λ unknown. own_serves state _ refl)
+      (λ unknown. own_serves state _ (420, _, refl, refl) refl)
       (λ u. by_if Takes (has_to_tag request) _ _
       (λ is. by_found Takes (request_in_dialog state call_id name arrival)
       (dialog_at name state.dialogs) none
@@ -617,8 +672,15 @@ ack_serves state call_id ack now =
         early = λ early. early;
       });
       answers = λ id key message among. ⊎_elim (λ same. absurd cc) (λ none. absurd none) among;
+      keeps = λ k id ours. inl (changed_holds k id (has_id invite.id) after_ack state.requests
+          (λ held it. record {
+            id_is = it.id_is;
+            key_is = it.key_is;
+            unanswered = it.unanswered;
+          }) ours);
+      takes = tt;
     })
-    (λ none. serves_same now [] state.requests None (λ id key message among. absurd among))
+    (λ none. serves_same now [] state.requests (λ id key message among. among))
 
 -- ---- a tick
 
@@ -651,6 +713,29 @@ success_left now held (Some was) success =
     (ap (λ (s : Success). s.over) (same_some _ success is) ∙ none)))
     (λ l. by_if P (is_none was.over && nat_le was.retransmission.due now) _ _
     (λ due. so _ refl refl) (λ d. so was refl refl))
+
+pub tick_stays : (k : Key) (id : Id) (state : State) (now : ℕ) → Holds k id state.requests
+    → Holds k id (server_tick state now).0.requests
+unfolding server_tick
+tick_stays k id state now ours =
+    let after : HeldRequest = record ours.0 {
+      ledger = (provisionals_tick now ours.0).0;
+      success = (success_tick now ours.0).0;
+    } in (
+      after,
+      among_kept (λ held. option_map_or (λ moment. nat_lt now moment) held.removal true) _ after
+          (among_mapped (λ (held : HeldRequest). record held {
+            ledger = (provisionals_tick now held).0;
+            success = (success_tick now held).0;
+          }) state.requests ours.0 ours.1)
+          (ap (λ removal. option_map_or (λ moment. nat_lt now moment) removal true)
+          (ours.2).unanswered),
+      record {
+        id_is = (ours.2).id_is;
+        key_is = (ours.2).key_is;
+        unanswered = (ours.2).unanswered;
+      },
+    )
 
 pub ticked_from : (state : State) (now : ℕ) (outs : List CallOut) (held : HeldRequest)
     → Among ((server_tick state now).0).requests held
