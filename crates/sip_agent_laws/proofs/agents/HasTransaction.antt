@@ -668,28 +668,34 @@ module _ (config : Config) (number : ℕ) (past : Past) (round : Round)
   pub tick_harmless : (k : Key) (own : Id) (c : Command) → Among ticks_out (call_out.Command own c)
       → IsSpared k at c × ((message : Message) → c ≡ order.Answer k message
       → IsEarly message ⊎ ((end : ℕ) × Shuts k end (between k)))
-  tick_harmless k own c among =
-      let asks = tick_asks own c among in
-      let call_id = asks.0 in
-      let held = asks.1 in
-      let sent = asks.3 in (
-        subst (IsSpared k at) (sym asks.4) tt,
-        λ message is.
-            let same : order.Answer held.key sent ≡ order.Answer k message = sym asks.4 ∙ is in
+  tick_harmless k own c among = so (tick_asks own c among)
+    where
+      so : (call_id : List ℕ) × (held : HeldRequest)
+          × Among (requests_held (calls_in config past call_id)) held × (message : Message)
+          × (c ≡ order.Answer held.key message) × IsSentAgain at held message
+          → IsSpared k at c × ((message : Message) → c ≡ order.Answer k message
+          → IsEarly message ⊎ ((end : ℕ) × Shuts k end (between k)))
+      so (call_id, held, there, sent, is, again) = (
+        subst (IsSpared k at) (sym is) tt,
+        λ message its.
+            let same : order.Answer held.key sent ≡ order.Answer k message = sym is ∙ its in
             let mine : held.key ≡ k = cc in
-            let its : sent ≡ message = cc in
-            let had = at_key k call_id held asks.2 mine in
-            ⊎_elim
-            (λ early. inl (subst IsEarly (early.2 ∙ its)
-            (each_of (λ one. IsEarly one.response) held.provisionals early.0 had.early early.1)))
-            (λ again. inr (
-              again.0.end,
-              ⊎_elim
-                  (λ late. absurd (false≢true (sym again.3 ∙ late))) (λ shuts. shuts)
-                  (had.shuts again.0 again.1 again.2).1,
-            ))
-            asks.5,
+            let this : sent ≡ message = cc in
+            by (at_key k call_id held there mine) message this again,
       )
+        where
+          by : Has IsLate k (between k) call_id held → (message : Message) → sent ≡ message
+              → IsSentAgain at held sent
+              → IsEarly message ⊎ ((end : ℕ) × Shuts k end (between k))
+          by had message this (inl (one, of, is)) =
+              inl (subst IsEarly (is ∙ this)
+              (each_of (λ one. IsEarly one.response) held.provisionals one had.early of))
+          by had message this (inr (success, is, over, early)) = inr (
+            success.end,
+            ⊎_elim
+                (λ late. absurd (false≢true (sym early ∙ late))) (λ shuts. shuts)
+                (had.shuts success is over).1,
+          )
 
   module _ (k : Key) where
     abbrev ticked_life : Option Life

@@ -714,28 +714,48 @@ success_left now held (Some was) success =
     (λ l. by_if P (is_none was.over && nat_le was.retransmission.due now) _ _
     (λ due. so _ refl refl) (λ d. so was refl refl))
 
+-- a request after a tick, if it stays
+abbrev ticked : ℕ → HeldRequest → HeldRequest
+ticked now held = record held {
+  ledger = (provisionals_tick now held).0;
+  success = (success_tick now held).0;
+}
+
+abbrev stays_at : ℕ → HeldRequest → Bool
+stays_at now held = option_map_or (λ moment. nat_lt now moment) held.removal true
+
 pub tick_stays : (k : Key) (id : Id) (state : State) (now : ℕ) → Holds k id state.requests
     → Holds k id (server_tick state now).0.requests
 unfolding server_tick
-tick_stays k id state now ours =
-    let after : HeldRequest = record ours.0 {
-      ledger = (provisionals_tick now ours.0).0;
-      success = (success_tick now ours.0).0;
-    } in (
-      after,
-      among_kept (λ held. option_map_or (λ moment. nat_lt now moment) held.removal true) _ after
-          (among_mapped (λ (held : HeldRequest). record held {
-            ledger = (provisionals_tick now held).0;
-            success = (success_tick now held).0;
-          }) state.requests ours.0 ours.1)
-          (ap (λ removal. option_map_or (λ moment. nat_lt now moment) removal true)
-          (ours.2).unanswered),
-      record {
-        id_is = (ours.2).id_is;
-        key_is = (ours.2).key_is;
-        unanswered = (ours.2).unanswered;
-      },
-    )
+tick_stays k id state now ours = (
+  ticked now ours.0,
+  among_kept (stays_at now) _ (ticked now ours.0)
+      (among_mapped (ticked now) state.requests ours.0 ours.1)
+      (ap (λ removal. option_map_or (λ moment. nat_lt now moment) removal true)
+      (ours.2).unanswered),
+  record {
+    id_is = (ours.2).id_is;
+    key_is = (ours.2).key_is;
+    unanswered = (ours.2).unanswered;
+  },
+)
+
+ticked_goes : (now : ℕ) (given : List CallOut) (old : HeldRequest) → Goes now given old (ticked now old)
+ticked_goes now given old = record {
+  id_is = refl;
+  key_is = refl;
+  unanswered = λ lacks. lacks;
+  success = λ success is over.
+      let was = success_left now old old.success success is over in
+      inl (record {
+        was = was.was;
+        before = was.before;
+        over = was.over;
+        end = was.end;
+        removal = inl refl;
+      });
+  early = λ early. early;
+}
 
 pub ticked_from : (state : State) (now : ℕ) (outs : List CallOut) (held : HeldRequest)
     → Among ((server_tick state now).0).requests held
@@ -744,33 +764,17 @@ pub ticked_from : (state : State) (now : ℕ) (outs : List CallOut) (held : Held
     × (option_map_or (λ moment. nat_lt now moment) held.removal true ≡ true)
 unfolding server_tick
 ticked_from state now outs held among =
-    let left = kept_among (λ held. option_map_or (λ moment. nat_lt now moment) held.removal true)
-    (map (λ (held : HeldRequest). record held {
-      ledger = (provisionals_tick now held).0;
-      success = (success_tick now held).0;
-    }) state.requests) held among in
-    let from = mapped_among (λ (held : HeldRequest). record held {
-      ledger = (provisionals_tick now held).0;
-      success = (success_tick now held).0;
-    }) state.requests held left.0 in
-    let old = from.0 in (
+    let left = kept_among (stays_at now) (map (ticked now) state.requests) held among in
+    so (mapped_among (ticked now) state.requests held left.0) left.1
+  where
+    so : (old : HeldRequest) × Among state.requests old × (ticked now old ≡ held)
+        → stays_at now held ≡ true
+        → (old : HeldRequest) × Among state.requests old × Goes now outs old held
+        × (held.removal ≡ old.removal) × (stays_at now held ≡ true)
+    so (old, there, is) stays = (
       old,
-      from.1,
-      subst (Goes now outs old) from.2 (record {
-        id_is = refl;
-        key_is = refl;
-        unanswered = λ lacks. lacks;
-        success = λ success is over.
-            let was = success_left now old old.success success is over in
-            inl (record {
-              was = was.was;
-              before = was.before;
-              over = was.over;
-              end = was.end;
-              removal = inl refl;
-            });
-        early = λ early. early;
-      }),
-      sym (ap (λ (h : HeldRequest). h.removal) from.2),
-      left.1,
+      there,
+      subst (Goes now outs old) is (ticked_goes now outs old),
+      sym (ap (λ (h : HeldRequest). h.removal) is),
+      stays,
     )
