@@ -384,3 +384,25 @@ module _ (k : Key) (now : ℕ) where
         start = new.start;
       }))
       (run_on cs (ordered held c) life is)
+
+-- ---- what each command keeps
+
+module _ (k : Key) (now : ℕ) where
+  pub run_keeps : (P : Option Life → Type 0) (cs : List (Id × Command))
+      → ((held : Option Life) (id : Id) (c : Command) → Among cs (id, c) → P held
+      → P (ordered k now held (id, c))) → (held : Option Life) → P held → P (run k now held cs)
+  run_keeps P [] keeps held holds = holds
+  run_keeps P ((id, c) ∷ cs) keeps held holds =
+      run_keeps P cs (λ held own other among. keeps held own other (inr among))
+      (ordered k now held (id, c)) (keeps held id c (inl refl) holds)
+
+  -- a command for this transaction
+  pub ordered_keeps : (P : Option Life → Type 0) (held : Option Life) (id : Id) (c : Command)
+      → (command_key c ≡ k → P (step_at k held now (Some (asked_by id c))).0) → P held
+      → P (ordered k now held (id, c))
+  ordered_keeps P held id c keeps holds =
+      by_bool (is_at (key_cmp (command_key c)) k)
+      (λ hit. subst (λ b. P (cond b (step_at k held now (Some (asked_by id c))).0 held)) (sym hit)
+      (keeps (exact_at keys_total exact_keys (command_key c) k hit)))
+      (λ miss. subst (λ b. P (cond b (step_at k held now (Some (asked_by id c))).0 held)) (sym miss)
+      holds)

@@ -12,7 +12,6 @@ use Rattle.std.proofs.lemmas.Grind.{common_steps}
 use Rattle.std.proofs.lemmas.List.Elements.{filter_map-append}
 use Rattle.std.proofs.lemmas.Map.Lookups.{exact_bytes}
 use Rattle.sip_message.specs.Key.{key_cmp, keys_total}
-use Rattle.sip_message.specs.Keys.{exact_keys}
 use Rattle.sip_message.specs.declared.id.Id.{Id}
 use Rattle.sip_message.specs.declared.key.Key.{Key}
 use Rattle.sip_message.specs.declared.message.Message.{Message}
@@ -57,7 +56,7 @@ use Rattle.sip_round.specs.Answers.{Past, calls_of, no_past, past_after}
 use Rattle.sip_round.specs.Outputs.{joined}
 use Rattle.sip_round.specs.Phases.{call_items, transaction_items}
 use Rattle.sip_agent_laws.proofs.agents.CallServes.{IsSentAgain, Spares, came_with, item_serves, item_spares, tick_from, tick_gives}
-use Rattle.sip_agent_laws.proofs.agents.Commands.{ordered, run, orders}
+use Rattle.sip_agent_laws.proofs.agents.Commands.{ordered, run, orders, run_keeps, ordered_keeps}
 use Rattle.sip_agent_laws.proofs.agents.Idle.{IsReport, all_joined, tick_reports}
 use Rattle.sip_agent_laws.proofs.agents.Items.{ItemIs, items_all}
 use Rattle.sip_agent_laws.proofs.agents.Linked.{after_is, calls_after_is, calls_in, calls_ticked, came_in, first_items, first_told, given_is, items, items_are, lives_between, lives_in, lives_ticked, no_events, second_items, second_ticks}
@@ -65,9 +64,10 @@ use Rattle.sip_agent_laws.proofs.agents.Lists.{Among, among_left, among_right, e
 use Rattle.sip_agent_laws.proofs.agents.OpenLives.{is_server}
 use Rattle.sip_agent_laws.proofs.agents.SecondPhase.{CallItems, CallStates, after_item, among_orders, here, in_parts, says}
 use Rattle.sip_agent_laws.proofs.agents.ServedFrom.{AreEarly, Goes, IsAnswered, IsEarly, IsNew, Serves}
-use Rattle.sip_agent_laws.proofs.agents.ServerLives.{AreOpen, Opens, Outlasts, Shuts, UpOpens, answered_on, arrival_outlasts, kept_then, never_both, open_on, open_then, serves_open, serves_shut, shut_on, ups_open}
+use Rattle.sip_agent_laws.proofs.agents.ServerLives.{AreOpen, Opens, Outlasts, Shuts, UpOpens, answered_on, arrival_outlasts, never_both, open_on, open_then, serves_open, serves_shut, shut_on, ups_open}
 use Rattle.sip_agent_laws.proofs.agents.ServedHeld.{less_itself}
 use Rattle.sip_agent_laws.proofs.agents.Sound.{Behind, after_one, behind_rise, first_rise, one_more, own_first, own_other}
+use Rattle.sip_agent_laws.proofs.agents.FirstPhase.{kept_then}
 
 -- ---- what a held request has
 
@@ -94,25 +94,6 @@ no_moment some none = absurd cc
 -- ---- commands, one after another
 
 module _ (k : Key) (now : ℕ) where
-  pub run_keeps : (P : Option Life → Type 0) (cs : List (Id × Command))
-      → ((held : Option Life) (id : Id) (c : Command) → Among cs (id, c) → P held
-      → P (ordered k now held (id, c))) → (held : Option Life) → P held → P (run k now held cs)
-  run_keeps P [] keeps held holds = holds
-  run_keeps P ((id, c) ∷ cs) keeps held holds =
-      run_keeps P cs (λ held own other among. keeps held own other (inr among))
-      (ordered k now held (id, c)) (keeps held id c (inl refl) holds)
-
-  -- a command for this transaction
-  pub ordered_keeps : (P : Option Life → Type 0) (held : Option Life) (id : Id) (c : Command)
-      → (command_key c ≡ k → P (step_at k held now (Some (asked_by id c))).0) → P held
-      → P (ordered k now held (id, c))
-  ordered_keeps P held id c keeps holds =
-      by_bool (is_at (key_cmp (command_key c)) k)
-      (λ hit. subst (λ b. P (cond b (step_at k held now (Some (asked_by id c))).0 held)) (sym hit)
-      (keeps (exact_at keys_total exact_keys (command_key c) k hit)))
-      (λ miss. subst (λ b. P (cond b (step_at k held now (Some (asked_by id c))).0 held)) (sym miss)
-      holds)
-
   -- what is asked of it leaves it open
   abbrev pub Leaves : Command → Type 0
   Leaves (order.Start key call_id message to) = Unit {0}
@@ -128,7 +109,7 @@ module _ (k : Key) (now : ℕ) where
   open_ordered : (call_id : List ℕ) (id : Id) (held : Option Life) (own : Id) (c : Command)
       → Leaves c → Opens k call_id id held → Opens k call_id id (ordered k now held (own, c))
   open_ordered call_id id held own c leaves opens =
-      ordered_keeps (Opens k call_id id) held own c (λ same. by c leaves same) opens
+      ordered_keeps k now (Opens k call_id id) held own c (λ same. by c leaves same) opens
     where
       by : (c : Command) → Leaves c → command_key c ≡ k
           → Opens k call_id id (step_at k held now (Some (asked_by own c))).0
@@ -140,7 +121,7 @@ module _ (k : Key) (now : ℕ) where
   shut_ordered : (end : ℕ) (held : Option Life) (own : Id) (c : Command) → IsSpared c
       → Shuts k end held → Shuts k end (ordered k now held (own, c))
   shut_ordered end held own c spared shuts =
-      ordered_keeps (Shuts k end) held own c (λ same. by c spared same) shuts
+      ordered_keeps k now (Shuts k end) held own c (λ same. by c spared same) shuts
     where
       by : (c : Command) → IsSpared c → command_key c ≡ k
           → Shuts k end (step_at k held now (Some (asked_by own c))).0
@@ -153,14 +134,14 @@ module _ (k : Key) (now : ℕ) where
       → (held : Option Life) → Opens k call_id id held
       → Opens k call_id id (run k now held (orders outs))
   run_open call_id id outs leaves =
-      run_keeps (Opens k call_id id) (orders outs) (λ held own c among. open_ordered call_id id held
+      run_keeps k now (Opens k call_id id) (orders outs) (λ held own c among. open_ordered call_id id held
       own c (leaves own c (among_orders outs own c among)))
 
   pub run_shut : (end : ℕ) (outs : List CallOut)
       → ((own : Id) (c : Command) → Among outs (call_out.Command own c) → IsSpared c)
       → (held : Option Life) → Shuts k end held → Shuts k end (run k now held (orders outs))
   run_shut end outs spared =
-      run_keeps (Shuts k end) (orders outs) (λ held own c among. shut_ordered end held own c
+      run_keeps k now (Shuts k end) (orders outs) (λ held own c among. shut_ordered end held own c
       (spared own c (among_orders outs own c among)))
 
 -- ---- the requests that come to a call

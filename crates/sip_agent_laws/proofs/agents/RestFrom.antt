@@ -45,8 +45,8 @@ use Rattle.sip_round.specs.Phases.{command_items, transaction_items}
 use Rattle.sip_round.proofs.Runs.{past_from-append}
 use Rattle.sip_agent_laws.specs.Agents.AtRest.{AreWithoutEvents, EachAgentComesToRest, IsAgentAtRest, IsQuietSince, reaches}
 use Rattle.sip_agent_laws.specs.Agents.Open.{life_after}
-use Rattle.sip_agent_laws.proofs.agents.Commands.{ordered, run, orders}
-use Rattle.sip_agent_laws.proofs.agents.HasTransaction.{HaveTransactions, has_next, none_have, ordered_keeps, run_keeps, tick_asks, tick_harmless}
+use Rattle.sip_agent_laws.proofs.agents.Commands.{ordered, run, orders, run_keeps, ordered_keeps}
+use Rattle.sip_agent_laws.proofs.agents.HasTransaction.{HaveTransactions, has_next, none_have, tick_asks, tick_harmless}
 use Rattle.sip_agent_laws.proofs.agents.Idle.{all_own, inside_only, no_arrivals, reports_silent}
 use Rattle.sip_agent_laws.proofs.agents.Linked.{after_is, calls_in, first_items, given, given_is, lives_between, lives_in, lives_ticked, second_items, second_ticks}
 use Rattle.sip_agent_laws.proofs.agents.LinkedRounds.{IsFair, all_fair, behind_now, fair_next, given_to, own, own_so_far, same_call}

@@ -2,13 +2,11 @@
 -- until its end; and a request comes up from the one that it begins.
 use Rattle.std.proofs.Common.{◌≡◌, ◌⊎◌, ⊎_elim, ℕ, ◌+◌, Bool, true, false, cond, ◌&&◌, ◌||◌, List, [], ◌∷◌, refl, sym, ap, ◌∙◌, subst}
 use borrow.Author.Tests.{eqb-true}
-use Rattle.std.specs.Prelude.{◌==◌, not, nat_le, nat_lt, is_none, Option, None, Some, codes, option_map, option_to_list, if◌then◌else◌}
-use Rattle.std.specs.BTreeMap.{is_at}
+use Rattle.std.specs.Prelude.{◌==◌, not, nat_le, nat_lt, is_none, Option, None, Some, codes, option_to_list, if◌then◌else◌}
 use Rattle.std.specs.List.{AllByRecursion}
 use Rattle.std.specs.Option.{option_map_or}
 use Rattle.std.proofs.lemmas.Bool.{false≢true}
 use Rattle.sip_message.specs.Key.{key_cmp, keys_total}
-use Rattle.sip_message.specs.Keys.{exact_keys}
 use Rattle.sip_message.specs.declared.addr.Addr.{Addr}
 use Rattle.sip_message.specs.declared.id.Id.{Id}
 use Rattle.sip_message.specs.declared.key.Key.{Key}
@@ -19,7 +17,7 @@ use Rattle.sip_timers.specs.declared.estimate.TheConstants.{LIFETIME}
 use Rattle.keyed_machine.specs.declared.item.Item.{Item}
 use Rattle.keyed_machine.specs.Machine.{Timed, adds, next}
 use Rattle.keyed_machine.specs.Phase.{states_then, timed_items}
-use Rattle.keyed_machine.proofs.Ordered.{by_bool, exact_at, is_at_itself}
+use Rattle.keyed_machine.proofs.Ordered.{is_at_itself}
 use Rattle.sip_transactions.specs.declared.input.Input.{Input}
 use Rattle.sip_transactions.specs.declared.input.Input.TheVariants.{Receive, Start, Answer, Failed, Abandon}
 use Rattle.sip_transactions.specs.declared.life.Context.{Context}
@@ -47,7 +45,7 @@ use Rattle.sip_transactions.specs.Rows.{rows_of}
 use Rattle.sip_transactions.specs.Rules.Step.{step_at}
 use Rattle.sip_transactions.specs.Steps.Input.{answer_of, arrival_of, arrived_in, class_of, is_abandon, is_same_method, role_of, trigger_of}
 use Rattle.sip_transactions.specs.Steps.Life.{acted_if, begun, context_by, context_of, entered, keeps_request, state_of, stepped}
-use Rattle.sip_transactions.specs.Steps.Output.{handed_out, kind_of, made_bytes, outputs_of, send_out}
+use Rattle.sip_transactions.specs.Steps.Output.{handed_out, kind_of, made_bytes, outputs_of}
 use Rattle.sip_transactions.proofs.LawSteps.{RowFor, by_step, is_message, is_request}
 use Rattle.sip_transactions.proofs.RowFacts.{and-left, and-right, row_passes, table_passes}
 use Rattle.sip_transactions.proofs.Rules.{step_is}
@@ -55,11 +53,11 @@ use Rattle.sip_agent_laws.specs.Agents.Open.{is_open}
 use Rattle.sip_agent_laws.specs.Transactions.Closing.{final_step, leaves_by}
 use Rattle.sip_agent_laws.specs.Transactions.Outcomes.{is_provisional}
 use Rattle.sip_agent_laws.specs.Transactions.Timers.{waits}
-use Rattle.sip_agent_laws.proofs.agents.FirstPhase.{AreArrivals, IsArrival, Items, States, after_item, all_of, tells}
+use Rattle.sip_agent_laws.proofs.agents.FirstPhase.{AreArrivals, IsArrival, Items, States, after_item, all_of, tells, kept_then}
 use Rattle.sip_agent_laws.proofs.agents.Lists.{both}
 use Rattle.sip_agent_laws.proofs.agents.OpenLives.{is_server}
 use Rattle.sip_agent_laws.proofs.transactions.Closed.{After, HeldAs, held_as, lasts, led, step_lasts, time_at}
-use Rattle.sip_agent_laws.proofs.transactions.Inputs.{HeldIn, all_pass, by_each, by_input, next_in, passes, rule, tick_trigger}
+use Rattle.sip_agent_laws.proofs.transactions.Inputs.{HeldIn, all_pass, by_each, by_input, next_in, passes, rule, tick_trigger, outputs_each}
 use Rattle.sip_agent_laws.proofs.transactions.Ticks.{Ends, EndsBy, Waiting, both_in}
 use Rattle.sip_agent_laws.proofs.transactions.Timed.{can_be, entered_passes, enters, implied, stays}
 
@@ -434,30 +432,11 @@ module _ (k : Key) where
       ∙ implied (is_lasting role life.state) _ shut.1.lasting (lasting_ends role life.state))))
       sent)
 
-  -- ---- the inputs of the first phase
-
-  pub kept_then : (P : Option Life → Type 0) (Q : Timed Input → Type 0)
-      → ((held : Option Life) (timed : Timed Input) → Q timed → P held
-      → P (step_at k held timed.moment timed.input).0) → (items : Items) (states : States)
-      → AllByRecursion (λ (item : Item Key (Timed Input)). Q item.input) items → P (states k)
-      → P (states_then key_cmp transaction_machine states items k)
-  kept_then P Q keeps [] states all holds = holds
-  kept_then P Q keeps (item ∷ items) states all holds =
-      kept_then P Q keeps items (after_item states item) all.1
-      (by_bool (is_at (key_cmp item.key) k)
-      (λ hit. subst P (sym (ap (λ b. cond b
-      (next transaction_machine item.key (states item.key) item.input) (states k)) hit
-      ∙ ap (λ q. next transaction_machine q (states q) item.input)
-      (exact_at keys_total exact_keys item.key k hit)))
-      (keeps (states k) item.input all.0 holds))
-      (λ miss. subst P (sym (ap (λ b. cond b
-      (next transaction_machine item.key (states item.key) item.input) (states k)) miss)) holds))
-
   pub open_then : (call_id : List ℕ) (id : Id) (items : Items) (states : States)
       → AreArrivals items → Opens call_id id (states k)
       → Opens call_id id (states_then key_cmp transaction_machine states items k)
   open_then call_id id items states arrive opens =
-      kept_then (Opens call_id id) (λ timed. IsArrival timed.input)
+      kept_then k (Opens call_id id) (λ timed. IsArrival timed.input)
       (λ held timed arrives. open_on call_id id held timed.moment timed.input
       (arrival_opens timed.input arrives)) items states arrive opens
 
@@ -505,59 +484,44 @@ module _ (k : Key) (Is : Key → List ℕ → Id → Type 0) where
       by_ack true from = tt
       by_ack false from = from refl
 
-  handed_opens : (context : Context) (message : Message) (reply_to : Addr) (handed : UpAction)
-      → FromRequest context (arrival_of message.start message.cseq.method) handed
-      → AllByRecursion (UpOpens Is)
-      (option_to_list (handed_out k context handed (Some (message, reply_to))))
+  -- what came, if something came, is of this trigger
+  abbrev FromArrived : Context → UpAction → Option (Message × Addr) → Type 0
+  FromArrived context handed None = Unit {0}
+  FromArrived context handed (Some (message, reply_to)) =
+      FromRequest context (arrival_of message.start message.cseq.method) handed
+
+  handed_opens : (context : Context) (handed : UpAction) (arrived : Option (Message × Addr))
+      → FromArrived context handed arrived
+      → AllByRecursion (UpOpens Is) (option_to_list (handed_out k context handed arrived))
   unfolding handed_out
-  handed_opens context message reply_to up.Nothing from = tt
-  handed_opens context message reply_to up.Message from =
+  handed_opens context up.Nothing arrived from = tt
+  handed_opens context up.Message None from = tt
+  handed_opens context up.Message (Some (message, reply_to)) from =
       (message_opens context message reply_to message.start from, tt)
-  handed_opens context message reply_to up.Timeout from = (tt, tt)
-  handed_opens context message reply_to up.Failed from = (tt, tt)
-  handed_opens context message reply_to up.NoTransaction from = (tt, tt)
+  handed_opens context up.Timeout arrived from = (tt, tt)
+  handed_opens context up.Failed arrived from = (tt, tt)
+  handed_opens context up.NoTransaction arrived from = (tt, tt)
 
-  reports_open : (context : Context) (handed : UpAction)
-      → AllByRecursion (UpOpens Is) (option_to_list (handed_out k context handed None))
-  unfolding handed_out
-  reports_open context up.Nothing = tt
-  reports_open context up.Message = tt
-  reports_open context up.Timeout = (tt, tt)
-  reports_open context up.Failed = (tt, tt)
-  reports_open context up.NoTransaction = (tt, tt)
-
-  sends_open : (to : Addr) (bytes : Option (List ℕ))
-      → AllByRecursion (UpOpens Is) (option_to_list (option_map (send_out k to) bytes))
-  sends_open to None = tt
-  sends_open to (Some bytes) = (tt, tt)
+  arrived_so : (context : Context) (handed : UpAction) (held : Option Life) (now : ℕ)
+      (input : Option Input) (trigger : Trigger) → trigger_of held now input ≡ Some trigger
+      → FromRequest context trigger handed → FromArrived context handed (arrived_in input)
+  arrived_so context handed held now (Some (Receive id message reply_to)) trigger is from =
+      let same : arrival_of message.start message.cseq.method ≡ trigger = cc in
+      subst (λ t. FromRequest context t handed) (sym same) from
+  arrived_so context handed held now None trigger is from = tt
+  arrived_so context handed held now (Some (Start id call_id message to)) trigger is from = tt
+  arrived_so context handed held now (Some (Answer id message)) trigger is from = tt
+  arrived_so context handed held now (Some (Failed id)) trigger is from = tt
+  arrived_so context handed held now (Some Abandon) trigger is from = tt
 
   outputs_open : (context : Context) (step : Step) (made : Option (List ℕ)) (held : Option Life)
       (now : ℕ) (input : Option Input) (trigger : Trigger)
       → trigger_of held now input ≡ Some trigger → FromRequest context trigger step.handed
       → AllByRecursion (UpOpens Is) (outputs_of k context step made (arrived_in input))
-  unfolding outputs_of
-  outputs_open context step made held now (Some (Receive id message reply_to)) trigger is from =
-      let same : arrival_of message.start message.cseq.method ≡ trigger = cc in
-      both (UpOpens Is)
-      (option_to_list (handed_out k context step.handed (Some (message, reply_to)))) _
-      (handed_opens context message reply_to step.handed
-      (subst (λ t. FromRequest context t step.handed) (sym same) from))
-      (sends_open context.to _)
-  outputs_open context step made held now None trigger is from =
-      both (UpOpens Is) (option_to_list (handed_out k context step.handed None)) _
-      (reports_open context step.handed) (sends_open context.to _)
-  outputs_open context step made held now (Some (Start id call_id message to)) trigger is from =
-      both (UpOpens Is) (option_to_list (handed_out k context step.handed None)) _
-      (reports_open context step.handed) (sends_open context.to _)
-  outputs_open context step made held now (Some (Answer id message)) trigger is from =
-      both (UpOpens Is) (option_to_list (handed_out k context step.handed None)) _
-      (reports_open context step.handed) (sends_open context.to _)
-  outputs_open context step made held now (Some (Failed id)) trigger is from =
-      both (UpOpens Is) (option_to_list (handed_out k context step.handed None)) _
-      (reports_open context step.handed) (sends_open context.to _)
-  outputs_open context step made held now (Some Abandon) trigger is from =
-      both (UpOpens Is) (option_to_list (handed_out k context step.handed None)) _
-      (reports_open context step.handed) (sends_open context.to _)
+  outputs_open context step made held now input trigger is from =
+      outputs_each (UpOpens Is) k context (λ bytes. tt) step made (arrived_in input)
+      (handed_opens context step.handed (arrived_in input)
+      (arrived_so context step.handed held now input trigger is from))
 
 module _ (k : Key) where
   abbrev IsThere : Option Life → Key → List ℕ → Id → Type 0

@@ -1,11 +1,10 @@
 -- What a tick does to a transaction; 64*T1 after the last other input it is gone or waits.
-use Rattle.std.proofs.Common.{◌≡◌, ℕ, ◌+◌, ◌≤◌, Bool, true, false, ◌||◌, List, [], ◌++◌, refl, sym, ◌∙◌, subst, arith, ◌&&◌, ◌∷◌, ap, ◌⊎◌, inl, inr}
-use Rattle.std.specs.Prelude.{Option, None, Some, cond, not, is_some, nat_le, option_map, option_to_list, is_none}
+use Rattle.std.proofs.Common.{◌≡◌, ℕ, ◌+◌, ◌≤◌, Bool, true, false, ◌||◌, List, [], refl, sym, ◌∙◌, subst, arith, ◌&&◌, ◌∷◌, ap, ◌⊎◌, inl, inr}
+use Rattle.std.specs.Prelude.{Option, None, Some, cond, not, is_some, nat_le, option_to_list, is_none}
 use Rattle.std.specs.List.{AllByRecursion}
 use Rattle.std.proofs.lemmas.Bool.{false≢true, leb-true, le-leb}
 use Rattle.std.proofs.lemmas.Nat.{pow_pos}
 use Rattle.std.proofs.lemmas.Grind.{common_steps}
-use Rattle.sip_message.specs.declared.addr.Addr.{Addr}
 use Rattle.sip_message.specs.declared.key.Key.{Key}
 use Rattle.sip_timers.specs.Earlier.{earlier}
 use Rattle.sip_timers.specs.Queue.{is_due}
@@ -27,14 +26,14 @@ use Rattle.sip_transactions.specs.Dues.{Dues}
 use Rattle.sip_transactions.specs.Machine.{life_due}
 use Rattle.sip_transactions.specs.Steps.Input.{role_of, trigger_of}
 use Rattle.sip_transactions.specs.Steps.Life.{begun, step_machine, stepped}
-use Rattle.sip_transactions.specs.Steps.Output.{handed_out, outputs_of, send_out, sent_bytes}
+use Rattle.sip_transactions.specs.Steps.Output.{handed_out, outputs_of}
 use Rattle.sip_transactions.specs.Timers.{interval, rearmed}
 use Rattle.sip_transactions.proofs.LawSteps.{by_step, is_ended}
 use Rattle.sip_transactions.proofs.OneRequest.{life_after-ended}
 use Rattle.sip_transactions.proofs.Pace.{interval_least}
 use Rattle.sip_transactions.proofs.RowFacts.{by_test, and-left, and-right, not_both}
 use Rattle.sip_agent_laws.specs.Transactions.Timers.{IsQuiet, NothingLeftDue, TicksAreQuiet, waits, ComesBy, GoneUnlessWaiting, has_tick_from, is_gone_or_waits}
-use Rattle.sip_agent_laws.proofs.transactions.Inputs.{tick_trigger, By, HeldIn, after_row, by_input, passes, rule, begins, first_in, next_in}
+use Rattle.sip_agent_laws.proofs.transactions.Inputs.{tick_trigger, By, HeldIn, after_row, by_input, passes, rule, begins, first_in, next_in, outputs_each}
 use Rattle.sip_agent_laws.proofs.transactions.Timed.{IsTimed, can_be, implied, reached, repeats, always, entered_passes, enters, starts, stays}
 use Rattle.sip_timers.specs.declared.estimate.TheConstants.{LIFETIME}
 use Rattle.keyed_machine.proofs.Phases.{state_from-append}
@@ -175,28 +174,21 @@ abbrev ticks_quiet : Role → State → Trigger → Step → Bool
 ticks_quiet role state trigger step =
     not (is_end trigger || is_retransmit trigger) || is_quiet step.handed
 
-sends_quiet : (key : Key) (to : Addr) (bytes : Option (List ℕ))
-    → AllByRecursion IsQuiet (option_to_list (option_map (send_out key to) bytes))
-sends_quiet key to None = tt
-sends_quiet key to (Some bytes) = (tt, tt)
-
-row_quiet : (key : Key) (context : Context) (handed : UpAction)
-    (made : Option (List ℕ)) → is_quiet handed ≡ true
-    → AllByRecursion IsQuiet (option_to_list (handed_out key context handed None)
-    ++ option_to_list (option_map (send_out key context.to) made))
+handed_quiet : (key : Key) (context : Context) (handed : UpAction) → is_quiet handed ≡ true
+    → AllByRecursion IsQuiet (option_to_list (handed_out key context handed None))
 unfolding handed_out
-row_quiet key context up.Nothing made quiet = sends_quiet key context.to made
-row_quiet key context up.Message made quiet = sends_quiet key context.to made
-row_quiet key context up.Timeout made quiet = (refl, sends_quiet key context.to made)
-row_quiet key context up.Failed made quiet = absurd (false≢true quiet)
-row_quiet key context up.NoTransaction made quiet = absurd (false≢true quiet)
+handed_quiet key context up.Nothing quiet = tt
+handed_quiet key context up.Message quiet = tt
+handed_quiet key context up.Timeout quiet = (refl, tt)
+handed_quiet key context up.Failed quiet = absurd (false≢true quiet)
+handed_quiet key context up.NoTransaction quiet = absurd (false≢true quiet)
 
 outputs_quiet : (key : Key) (context : Context) (step : Step) (made : Option (List ℕ))
     → is_quiet step.handed ≡ true
     → AllByRecursion IsQuiet (outputs_of key context step made None)
-unfolding outputs_of
 outputs_quiet key context step made quiet =
-    row_quiet key context step.handed (sent_bytes context.last step.sent made) quiet
+    outputs_each IsQuiet key context (λ bytes. tt) step made None
+    (handed_quiet key context step.handed quiet)
 
 pub ticks_are_quiet : TicksAreQuiet step_machine
 unfolding begun
