@@ -3,6 +3,8 @@ pub mod OpenLives
 pub mod Commands
 pub mod ClientsHeld
 pub mod ServedHeld
+pub mod ServedFrom
+pub mod CallServes
 pub mod CallHeld
 pub mod FirstPhase
 pub mod FirstOuts
@@ -20,6 +22,8 @@ pub mod EachOutcome
 pub mod OneOutcome
 pub mod OutcomeTold
 pub mod Idle
+pub mod ServerLives
+pub mod HasTransaction
 pub mod RestFrom
 pub mod NothingLeft
 pub mod UserEnds

@@ -1,6 +1,6 @@
 //! By when everything in an agent ends, and that nothing stays.
 
-ghost use Rattle.sip_agent_laws.specs.Agents.AtRest.{EachAgentComesToRest, EachCallComesToRest};
+ghost use Rattle.sip_agent_laws.specs.Agents.AtRest.{EachAgentComesToRest};
 ghost use Rattle.sip_agent_laws.specs.Agents.NothingLeft.{NoTransactionStays, NothingStays};
 ghost use Rattle.sip_agent_laws.specs.Agents.Open.{EachOpenIsHeld};
 ghost use Rattle.sip_agent_laws.specs.Agents.Outcomes.{AtMostOneIsTold, EachRequestHasOneOutcome, OutcomeIsTold};
@@ -15,20 +15,15 @@ pub fn each_open_transaction_is_held()
 {}
 
 /// Whatever came in rounds up to a moment: after rounds without events, of which one is 64*T1 later
-/// or later still, nothing of any call is due, and no request in it has a final response.
-pub fn each_call_comes_to_rest()
-    ensures { EachCallComesToRest }
-{}
-
-/// After a second time of 64*T1 without events each transaction is gone, or waits without a timer,
-/// and nothing in the agent is due at any moment. A host needn't run a round again until something
-/// comes.
+/// or later still, each transaction is gone, or waits without a timer, no request in a call has a
+/// final response, and nothing in the agent is due at any moment. A host needn't run a round again
+/// until something comes.
 pub fn each_agent_comes_to_rest()
     ensures { EachAgentComesToRest }
 {}
 
-/// If nothing waits for the user in any call, then after twice 64*T1 without events no transaction
-/// is held. If no request of the agent waits for its transaction either, then nothing is held: no
+/// If nothing waits for the user in any call, then after 64*T1 without events no transaction is
+/// held. If no request of the agent waits for its transaction either, then nothing is held: no
 /// transaction and no call.
 pub fn nothing_stays()
     ensures transactions { NoTransactionStays }
@@ -37,8 +32,8 @@ pub fn nothing_stays()
 
 /// Whatever the peers did, the user can end all: after one round that rejects each request of the
 /// peer that has no final response, and gives up each INVITE of the agent and each dialog, and then
-/// twice 64*T1 without events, no transaction is held. If the round gives up each other request of
-/// the agent too, no call is held either.
+/// 64*T1 without events, no transaction is held. If the round gives up each other request of the
+/// agent too, no call is held either.
 pub fn the_user_ends_all()
     ensures transactions { UserEndsTransactions }
     ensures all { UserEndsAgent }

@@ -21,8 +21,8 @@ pub fn rejections_are_accepted()
 
 /// Whatever came to a call: a client request that is held and given up is gone, with the early
 /// dialogs that it made; so is a dialog. Neither this nor a rejection adds what waits for the user,
-/// nor do ticks and the reports of transactions. So a rejection of each request of the peer, and
-/// giving up each INVITE and each dialog, leave nothing that waits for the user.
+/// nor do ticks and the reports of transactions. So in an agent a rejection of each request of the
+/// peer, and giving up each INVITE and each dialog, leave nothing that waits for the user.
 pub fn given_up_is_gone()
     ensures request { RequestGivenUp }
     ensures dialog { DialogGivenUp }

@@ -1,8 +1,7 @@
 -- What a whole call holds without a final response, after one input.
-use Rattle.std.proofs.Common.{◌≡◌, ◌⊎◌, inl, inr, ⊎_elim, ℕ, Bool, true, false, List, [], ◌∷◌, refl, sym, ap, ◌∙◌, subst, arith}
+use Rattle.std.proofs.Common.{◌≡◌, inl, inr, ⊎_elim, ℕ, true, false, List, [], ◌∷◌, refl, sym, ap, ◌∙◌, subst, arith}
 use Rattle.std.specs.Prelude.{Option, None, Some, nat_lt}
 use Rattle.std.proofs.lemmas.Grind.{common_steps}
-use Rattle.sip_message.specs.declared.addr.Addr.{Addr}
 use Rattle.sip_message.specs.declared.id.Id.{Id}
 use Rattle.sip_message.specs.declared.key.Key.{Key}
 use Rattle.sip_message.specs.declared.message.Message.{Message}
@@ -28,93 +27,14 @@ use Rattle.sip_clients.specs.Rules.Responses.{status_of}
 use Rattle.sip_calls.specs.declared.call.Call.{Call}
 use Rattle.sip_calls.specs.declared.calls.Calls.{Calls}
 use Rattle.sip_calls.specs.Call.{CallItem, call_step, call_tick, event_of, item_of_call, kept, made_tag, new_call, received}
-use Rattle.sip_calls.specs.HeldRequests.{requests_held}
 use Rattle.sip_calls.specs.OwnCall.{AreSidesOf, IsCallOf, IsInputOf}
 use Rattle.sip_calls.specs.Provisionals.{side_held}
 use Rattle.sip_calls.specs.Sides.{CallTaken, side_of}
 use Rattle.sip_calls.proofs.CallStarts.{tick_silent}
-use Rattle.sip_calls.proofs.HeldRequests.{kept_requests, requests_of}
 use Rattle.sip_calls.proofs.KeptSides.{kept_side}
 use Rattle.sip_agent_laws.proofs.agents.ClientsHeld as asked
 use Rattle.sip_agent_laws.proofs.agents.ClientsHeld.{Goes, Steps, abandon_dialog_goes, abandon_goes, ack_goes, calm_goes, cancel_goes, invite_goes, lost_goes, plain_goes, prack_goes, request_goes, response_goes, silent, tick_holds}
 use Rattle.sip_agent_laws.proofs.agents.OpenLives.{KindIsMild}
-use Rattle.sip_agent_laws.proofs.agents.ServedHeld as served
-use Rattle.sip_agent_laws.proofs.agents.ServedHeld.{AreApart, Says, Served, ack_stays, request_served, respond_stays, tick_stays}
-
--- ---- a request of the peer
-
-module _ (k : Key) (id : Id) where
-  abbrev StaysIn : CallTaken → Type 0
-  StaysIn taken = served.Holds k id (requests_of taken.0) ⊎ Says k taken.1
-
-  abbrev pub StaysHeld : Option Call × List CallOut → Type 0
-  StaysHeld taken = served.Holds k id (requests_held taken.0) ⊎ Says k taken.1
-
-  kept_stays : (taken : CallTaken) → StaysIn taken → StaysHeld (kept taken)
-  kept_stays taken (inl ours) =
-      inl (subst (served.Holds k id) (sym (kept_requests taken.0)) ours)
-  kept_stays taken (inr says) = inr says
-
-  up_stays : (calls : Calls) (call : Call) (event : Id) (now : ℕ) (up : AnUp) (its : UpKind)
-      → AreApart (requests_of call) → served.Holds k id (requests_of call)
-      → StaysIn (received call (event_of calls event now) up its)
-  up_stays calls call event now up (kind.Request request reply_to) apart ours =
-      (request_served call.served _ up.call_id now apart).keeps k id ours
-  up_stays calls call event now up (kind.Ack ack) apart ours =
-      inl (ack_stays k id call.served up.call_id ack ours)
-  up_stays calls call event now up (kind.Response response) apart ours = inl ours
-  up_stays calls call event now up kind.Timeout apart ours = inl ours
-  up_stays calls call event now up kind.Failed apart ours = inl ours
-
-  command_stays : (calls : Calls) (call : Call) (event : Id) (now : ℕ) (c : UserCommand)
-      → served.Holds k id (requests_of call)
-      → StaysIn (item_of_call true call (event_of calls event now) (User c))
-  command_stays calls call event now (user.Invite invite) ours = inl ours
-  command_stays calls call event now (user.Plain plain) ours = inl ours
-  command_stays calls call event now (user.Request request) ours = inl ours
-  command_stays calls call event now (user.Respond respond) ours =
-      (respond_stays k id call.served event respond now ours).is
-  command_stays calls call event now (user.Ack ack) ours = inl ours
-  command_stays calls call event now (user.Prack prack) ours = inl ours
-  command_stays calls call event now (user.Cancel cancel) ours = inl ours
-  command_stays calls call event now (user.AbandonRequest abandon) ours = inl ours
-  command_stays calls call event now (user.AbandonDialog abandon) ours = inl ours
-
-  -- it stays so, or its final response goes out
-  pub step_stays : (calls : Calls) (call : Option Call) (input : Option CallItem) (now : ℕ)
-      → AreApart (requests_held call) → served.Holds k id (requests_held call)
-      → StaysHeld (call_step calls call input now)
-  step_stays calls None input now apart ours = absurd ours.1
-  step_stays calls (Some call) None now apart ours =
-      kept_stays (call_tick call now) (inl (tick_stays k id call.served now ours))
-  step_stays calls (Some call) (Some (event, Up up)) now apart ours =
-      kept_stays (item_of_call true call (event_of calls event now) (Up up))
-      (up_stays calls call event now up up.kind apart ours)
-  step_stays calls (Some call) (Some (event, User c)) now apart ours =
-      kept_stays (item_of_call true call (event_of calls event now) (User c))
-      (command_stays calls call event now c ours)
-
--- a request that comes up
-takes_so : (calls : Calls) (held : Bool) (call : Call) (event : Id) (now : ℕ) (up : AnUp)
-    (request : Message) (reply_to : Addr) → AreApart (requests_of call)
-    → up.kind ≡ kind.Request request reply_to
-    → StaysIn up.key up.id (item_of_call held call (event_of calls event now) (Up up))
-takes_so calls held call event now up request reply_to apart is =
-    subst (λ its. StaysIn up.key up.id (received call (event_of calls event now) up its)) (sym is)
-    (request_served call.served _ up.call_id now apart).takes
-
--- is held, or its final response goes out
-pub step_takes : (calls : Calls) (call : Option Call) (event : Id) (now : ℕ) (up : AnUp)
-    (request : Message) (reply_to : Addr) → AreApart (requests_held call)
-    → up.kind ≡ kind.Request request reply_to
-    → StaysHeld up.key up.id (call_step calls call (Some (event, Up up)) now)
-step_takes calls None event now up request reply_to apart is =
-    let call = new_call calls.local in
-    kept_stays up.key up.id (item_of_call false call (event_of calls event now) (Up up))
-    (takes_so calls false call event now up request reply_to apart is)
-step_takes calls (Some call) event now up request reply_to apart is =
-    kept_stays up.key up.id (item_of_call true call (event_of calls event now) (Up up))
-    (takes_so calls true call event now up request reply_to apart is)
 
 -- ---- a request of the call
 
@@ -260,14 +180,6 @@ module _ (k : Key) (id : Id) (commanded : asked.IsCommanded k) (of : List ℕ) w
       (command_goes calls call event now c own)
 
 -- ---- a tick
-
-pub tick_served : (k : Key) (id : Id) (calls : Calls) (call : Option Call) (now : ℕ)
-    → served.Holds k id (requests_held call)
-    → served.Holds k id (requests_held (call_step calls call None now).0)
-tick_served k id calls None now ours = absurd ours.1
-tick_served k id calls (Some call) now ours =
-    subst (served.Holds k id) (sym (kept_requests (call_tick call now).0))
-    (tick_stays k id call.served now ours)
 
 pub tick_asked : (k : Key) (id : Id) → asked.IsCommanded k → (calls : Calls)
     (call : Option Call) (now : ℕ) → asked.Holds k id (side_held call).clients

@@ -273,20 +273,6 @@ module _ (k : Key) (id : Id) where
     none = λ call_id begins. none_begins k id call_id outs none begins;
   }
 
-  more_outs : (before after : Clients) (outs more : List CallOut) → starts more ≡ []
-      → Calm before after outs → Calm before after (outs ++ more)
-  more_outs before after outs more none calm = record {
-    keeps = record {
-      is = λ ours free. ⊎_elim (λ still. inl still)
-          (λ gone. inr (gone.0, among_left outs more gone.0 gone.1, gone.2))
-          (calm.keeps.is ours (front_of (λ out. IsUnder id out → ⊥) outs more free));
-    };
-    none = λ call_id begins. ⊎_elim
-        (λ here. calm.none call_id (begins.0, here, begins.2))
-        (λ there. none_begins k id call_id more none (begins.0, there, begins.2))
-        (among_either outs more begins.0 begins.1);
-  }
-
   more_of : (of : List ℕ) (before after : Clients) (outs more : List CallOut)
       → starts more ≡ [] → Goes of before after outs → Goes of before after (outs ++ more)
   more_of of before after outs more none goes = record {

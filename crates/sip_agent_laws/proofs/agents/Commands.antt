@@ -2,7 +2,7 @@
 use Rattle.std.proofs.Common.{◌≡◌, ◌⊎◌, inl, inr, ⊎_elim, ℕ, Bool, true, false, cond, List, [], ◌∷◌, ◌++◌, refl, sym, ap, ◌∙◌, subst, arith}
 use Rattle.std.specs.Prelude.{◌==◌, Option, None, Some, nat_le, nat_lt, option_map, codes, if◌then◌else◌}
 use Rattle.std.specs.BTreeMap.{is_at}
-use Rattle.std.specs.List.{AllByRecursion}
+use Rattle.std.specs.List.{AllByRecursion, flat_map}
 use Rattle.std.proofs.lemmas.Bool.{false≢true}
 use Rattle.std.proofs.lemmas.Grind.{common_steps}
 use Rattle.sip_message.specs.declared.id.Id.{Id}
@@ -34,8 +34,11 @@ use Rattle.sip_transactions.specs.Rules.Step.{class_of_status, row_applied, step
 use Rattle.sip_transactions.specs.Rules.Tables.{invite_server, server, table}
 use Rattle.sip_transactions.specs.Shard.{asked_by, command_key}
 use Rattle.sip_transactions.specs.Steps.Input.{is_same_method, role_of}
+use Rattle.sip_user.specs.declared.item.CallOut.{CallOut}
+use Rattle.sip_user.specs.declared.item.CallOut.TheVariants as out
+use Rattle.sip_round.specs.Outputs.{command_of}
 use Rattle.sip_agent_laws.specs.Agents.Open.{is_open}
-use Rattle.sip_agent_laws.proofs.agents.Lists.{Among}
+use Rattle.sip_agent_laws.proofs.agents.Lists.{Among, among_flat}
 use Rattle.sip_agent_laws.proofs.agents.OpenLives.{IsBegun, IsKept, is_server, lives_on, opens}
 
 -- ---- a final answer
@@ -139,6 +142,16 @@ answered (key.Server branch sent_by method) serves life now id message final aft
     ] in
     answered_row branch sent_by method life now message final.0 final.3 after
     (sym (ap (λ line. (by line).0) final.2) ∙ is)
+
+-- ---- commands among outputs
+
+-- the commands for transactions among outputs
+abbrev pub orders : List CallOut → List (Id × Command)
+orders outs = flat_map command_of outs
+
+pub ordered_among : (outs : List CallOut) (id : Id) (c : Command) → Among outs (out.Command id c)
+    → Among (orders outs) (id, c)
+ordered_among outs id c among = among_flat command_of outs (out.Command id c) (id, c) among (inl refl)
 
 -- ---- commands, one after another
 
@@ -371,3 +384,25 @@ module _ (k : Key) (now : ℕ) where
         start = new.start;
       }))
       (run_on cs (ordered held c) life is)
+
+-- ---- what each command keeps
+
+module _ (k : Key) (now : ℕ) where
+  pub run_keeps : (P : Option Life → Type 0) (cs : List (Id × Command))
+      → ((held : Option Life) (id : Id) (c : Command) → Among cs (id, c) → P held
+      → P (ordered k now held (id, c))) → (held : Option Life) → P held → P (run k now held cs)
+  run_keeps P [] keeps held holds = holds
+  run_keeps P ((id, c) ∷ cs) keeps held holds =
+      run_keeps P cs (λ held own other among. keeps held own other (inr among))
+      (ordered k now held (id, c)) (keeps held id c (inl refl) holds)
+
+  -- a command for this transaction
+  pub ordered_keeps : (P : Option Life → Type 0) (held : Option Life) (id : Id) (c : Command)
+      → (command_key c ≡ k → P (step_at k held now (Some (asked_by id c))).0) → P held
+      → P (ordered k now held (id, c))
+  ordered_keeps P held id c keeps holds =
+      by_bool (is_at (key_cmp (command_key c)) k)
+      (λ hit. subst (λ b. P (cond b (step_at k held now (Some (asked_by id c))).0 held)) (sym hit)
+      (keeps (exact_at keys_total exact_keys (command_key c) k hit)))
+      (λ miss. subst (λ b. P (cond b (step_at k held now (Some (asked_by id c))).0 held)) (sym miss)
+      holds)

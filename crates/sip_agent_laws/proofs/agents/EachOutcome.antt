@@ -1,5 +1,5 @@
 -- A round in which a request waits for its outcome: it goes on, or the application is told.
-use Rattle.std.proofs.Common.{◌≡◌, ◌⊎◌, inl, inr, ⊎_elim, ℕ, suc, ◌≤◌, Bool, true, false, cond, ◌||◌, List, [], ◌∷◌, ◌++◌, map, refl, sym, ap, ◌∙◌, append_assoc, append-nil, subst}
+use Rattle.std.proofs.Common.{◌≡◌, ◌⊎◌, inl, inr, ⊎_elim, ℕ, suc, ◌≤◌, Bool, true, false, cond, ◌||◌, List, [], ◌∷◌, ◌++◌, map, refl, sym, ap, ◌∙◌, append_assoc, append-nil, subst, ◌+◌}
 use Rattle.std.specs.Prelude.{Option, None, Some, IsSome, codes, count_by, filter, nat_le}
 use Rattle.std.specs.BTreeMap.{is_at}
 use Rattle.std.specs.List.{AllByRecursion, flat_map, list_any}
@@ -51,7 +51,7 @@ use Rattle.sip_agent_laws.specs.Agents.Outcomes.{Causes}
 use Rattle.sip_agent_laws.proofs.agents.ClientsHeld.{Abandons, Holds, IsCommanded, is_invite_key}
 use Rattle.sip_agent_laws.proofs.agents.Apart.{starts_from}
 use Rattle.sip_agent_laws.proofs.agents.CallHeld.{tick_asked}
-use Rattle.sip_agent_laws.proofs.agents.Commands.{IsAbandonOf}
+use Rattle.sip_agent_laws.proofs.agents.Commands.{IsAbandonOf, orders}
 use Rattle.sip_agent_laws.proofs.agents.EndTold.{IsTold, items_told, told_right}
 use Rattle.sip_agent_laws.proofs.agents.Going.{GoesOn, HandsUp, IsGoing, OwnCame, ends_ticked, goes_run, items_then, ticked}
 use Rattle.sip_agent_laws.proofs.agents.Items.{item_given, requests_among, up_among}
@@ -59,7 +59,7 @@ use Rattle.sip_agent_laws.proofs.agents.Linked.{IsLinked, after_is, calls_in, ca
 use Rattle.sip_agent_laws.proofs.agents.LinkedRounds.{IsFair, fair_next, linked_next}
 use Rattle.sip_agent_laws.proofs.agents.Lists.{Among, among_flat, among_kept, among_left, among_mapped, among_right}
 use Rattle.sip_agent_laws.proofs.agents.OpenLives.{is_server}
-use Rattle.sip_agent_laws.proofs.agents.SecondPhase.{fewer_counted, no_abandon, orders, says}
+use Rattle.sip_agent_laws.proofs.agents.SecondPhase.{fewer_counted, no_abandon, says}
 use Rattle.sip_agent_laws.proofs.calls.OneTold.{brings_outcome}
 
 -- ---- the transaction of a command

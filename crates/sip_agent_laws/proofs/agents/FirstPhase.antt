@@ -12,7 +12,7 @@ use Rattle.sip_message.specs.Keys.{exact_keys}
 use Rattle.keyed_machine.specs.declared.item.Item.{Item}
 use Rattle.keyed_machine.specs.Machine.{Timed, adds, next}
 use Rattle.keyed_machine.specs.Phase.{states_then, stepped, told_items}
-use Rattle.keyed_machine.proofs.Ordered.{exact_at, is_at_itself}
+use Rattle.keyed_machine.proofs.Ordered.{exact_at, is_at_itself, by_bool}
 use Rattle.sip_transactions.specs.declared.input.Input.{Input}
 use Rattle.sip_transactions.specs.declared.input.Input.TheVariants.{Receive, Start, Answer, Failed, Abandon}
 use Rattle.sip_transactions.specs.declared.life.Life.{Life}
@@ -242,3 +242,21 @@ module _ (k : Key) where
         (served_item states item was.before (is_at (key_cmp item.key) k) refl was.was was.still))
         (λ came. inr (came.0, came.1, among_right here rest _ came.2))
         (server_then items (after_item states item) life is still)
+
+-- what each input of a transaction keeps
+pub kept_then : (k : Key) (P : Option Life → Type 0) (Q : Timed Input → Type 0)
+    → ((held : Option Life) (timed : Timed Input) → Q timed → P held
+    → P (step_at k held timed.moment timed.input).0) → (items : Items) (states : States)
+    → AllByRecursion (λ (item : Item Key (Timed Input)). Q item.input) items → P (states k)
+    → P (states_then key_cmp transaction_machine states items k)
+kept_then k P Q keeps [] states all holds = holds
+kept_then k P Q keeps (item ∷ items) states all holds =
+    kept_then k P Q keeps items (after_item states item) all.1
+    (by_bool (is_at (key_cmp item.key) k)
+    (λ hit. subst P (sym (ap (λ b. cond b
+    (next transaction_machine item.key (states item.key) item.input) (states k)) hit
+    ∙ ap (λ q. next transaction_machine q (states q) item.input)
+    (exact_at keys_total exact_keys item.key k hit)))
+    (keeps (states k) item.input all.0 holds))
+    (λ miss. subst P (sym (ap (λ b. cond b
+    (next transaction_machine item.key (states item.key) item.input) (states k)) miss)) holds))

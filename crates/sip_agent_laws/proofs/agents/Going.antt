@@ -52,12 +52,12 @@ use Rattle.sip_transactions.proofs.Rules.{step_is}
 use Rattle.sip_agent_laws.specs.Agents.Open.{is_open}
 use Rattle.sip_agent_laws.specs.Agents.Outcomes.{Causes}
 use Rattle.sip_agent_laws.specs.Transactions.Outcomes.{is_outcome, is_up, ups}
-use Rattle.sip_agent_laws.proofs.agents.Commands.{IsAbandonOf, ordered, run}
-use Rattle.sip_agent_laws.proofs.agents.FirstPhase.{AreArrivals, IsArrival, Items, States, all_of, after_item, no_start, tells}
-use Rattle.sip_agent_laws.proofs.agents.Lists.{Among, among_either, among_left, among_right, both, each_of}
+use Rattle.sip_agent_laws.proofs.agents.Commands.{IsAbandonOf, ordered, run, run_keeps, ordered_keeps}
+use Rattle.sip_agent_laws.proofs.agents.FirstPhase.{AreArrivals, IsArrival, Items, States, all_of, after_item, no_start, tells, kept_then}
+use Rattle.sip_agent_laws.proofs.agents.Lists.{Among, among_either, among_left, among_right, each_of}
 use Rattle.sip_agent_laws.proofs.agents.OpenLives.{is_server, lives_on}
 use Rattle.sip_agent_laws.proofs.transactions.Ends.{Asks, HasAsked, first_asks, is_invite_client, is_plain_client, lack, lacks, is_not, next_asks, pends, rest_enough, tick_asked}
-use Rattle.sip_agent_laws.proofs.transactions.Inputs.{HeldIn, begins, by_each, by_input, first_in, next_in, passes, rule}
+use Rattle.sip_agent_laws.proofs.transactions.Inputs.{HeldIn, begins, by_each, by_input, first_in, next_in, passes, rule, ups_each}
 use Rattle.sip_agent_laws.proofs.transactions.Timed.{IsTimed, entered_passes, enters, implied, starts, stays}
 use Rattle.sip_agent_laws.proofs.transactions.Told.{finals, outcomes_count, score, tells as row_tells, ups-row}
 
@@ -69,33 +69,14 @@ IsNamed k id call_id (out.Up up) = (up.key ≡ k) × (up.id ≡ id) × (up.call_
 IsNamed k id call_id (out.Send key to bytes) = Unit {0}
 IsNamed k id call_id (out.Dropped place why) = Unit {0}
 
-sends_named : (k : Key) (id : Id) (call_id : List ℕ) (to : Addr) (bytes : Option (List ℕ))
-    → AllByRecursion (IsNamed k id call_id) (option_to_list (option_map (send_out k to) bytes))
-sends_named k id call_id to None = tt
-sends_named k id call_id to (Some bytes) = (tt, tt)
-
-handed_named : (k : Key) (life : Life) (handed : UpAction) (arrived : Option (Message × Addr))
-    → AllByRecursion (IsNamed k life.context.id life.context.call_id)
-    (option_to_list (handed_out k life.context handed arrived))
-unfolding handed_out
-handed_named k life up.Nothing arrived = tt
-handed_named k life up.Message None = tt
-handed_named k life up.Message (Some arrived) = ((refl, refl, refl), tt)
-handed_named k life up.Timeout arrived = ((refl, refl, refl), tt)
-handed_named k life up.Failed arrived = ((refl, refl, refl), tt)
-handed_named k life up.NoTransaction arrived = (tt, tt)
-
 pub all_named : (k : Key) (life : Life) (timed : Timed Input)
     → AllByRecursion (IsNamed k life.context.id life.context.call_id)
     (stepped k (Some life) timed).1
-unfolding outputs_of
 all_named k life timed =
     by_step (λ after. AllByRecursion (IsNamed k life.context.id life.context.call_id) after.1) k
     (Some life) timed tt tt
-    (λ step row. both (IsNamed k life.context.id life.context.call_id)
-    (option_to_list (handed_out k life.context step.handed (arrived_in timed.input))) _
-    (handed_named k life step.handed (arrived_in timed.input))
-    (sends_named k life.context.id life.context.call_id life.context.to _))
+    (λ step row. ups_each (IsNamed k life.context.id life.context.call_id) k life.context
+    (λ bytes. tt) (λ its. (refl, refl, refl)) (λ place why. tt) step _ (arrived_in timed.input))
 
 -- the outcome of a request comes up; such an input brings it about, of which this is true
 pub record HandsUp (k : Key) (id : Id) (call_id : List ℕ) (end : ℕ) (Came : Timed Input → Type 0)
@@ -674,30 +655,24 @@ module _ (k : Key) (client : role_of k ≡ role.Client) (id : Id) (call_id : Lis
   pub goes_ordered : (now : ℕ) (held : Option Life) (id : Id) (c : Command) → (IsAbandonOf k c → ⊥)
       → GoesOn held → GoesOn (ordered k now held (id, c))
   goes_ordered now held own c kept (life, is, going) =
-      by_bool (is_at (key_cmp (command_key c)) k)
-      (λ hit. subst (λ b. GoesOn (cond b (step_at k held now (Some (asked_by own c))).0 held))
-      (sym hit)
-      (subst (λ h. GoesOn (step_at k h now (Some (asked_by own c))).0) (sym is)
-      (by_command c kept hit)))
-      (λ miss. subst (λ b. GoesOn (cond b (step_at k held now (Some (asked_by own c))).0 held))
-      (sym miss) (life, is, going))
+      ordered_keeps k now GoesOn held own c
+      (λ hit. subst (λ h. GoesOn (step_at k h now (Some (asked_by own c))).0) (sym is)
+      (by_command c kept hit)) (life, is, going)
     where
-      by_command : (c : Command) → (IsAbandonOf k c → ⊥)
-          → is_at (key_cmp (command_key c)) k ≡ true
+      by_command : (c : Command) → (IsAbandonOf k c → ⊥) → command_key c ≡ k
           → GoesOn (step_at k (Some life) now (Some (asked_by own c))).0
       by_command (order.Start key call_id message to) kept hit =
           one_order life now (Start own call_id message to) tt going
       by_command (order.Answer key message) kept hit =
           one_order life now (Answer own message) tt going
-      by_command (order.Abandon key) kept hit = absurd (kept (is_key key hit))
+      by_command (order.Abandon key) kept hit = absurd (kept hit)
 
   pub goes_run : (now : ℕ) (cs : List (Id × Command)) (held : Option Life)
       → AllByRecursion (λ (c : Id × Command). IsAbandonOf k c.1 → ⊥) cs → GoesOn held
       → GoesOn (run k now held cs)
-  goes_run now [] held kept goes = goes
-  goes_run now (c ∷ cs) held kept goes =
-      goes_run now cs (ordered k now held c) kept.1
-      (goes_ordered now held c.0 c.1 kept.0 goes)
+  goes_run now cs held kept goes =
+      run_keeps k now GoesOn cs (λ held own c among. goes_ordered now held own c
+      (each_of (λ (c : Id × Command). IsAbandonOf k c.1 → ⊥) cs (own, c) kept among)) held goes
 
 -- ---- the round in which it is sent
 
@@ -750,12 +725,7 @@ module _ (k : Key) (client : role_of k ≡ role.Client) (now : ℕ) where
   new_ordered : (held : Option Life) (c : Id × Command) → HeldIn IsNew held
       → HeldIn IsNew (ordered k now held c)
   new_ordered held (own, c) new =
-      by_bool (is_at (key_cmp (command_key c)) k)
-      (λ hit. subst (λ b. HeldIn IsNew (cond b (step_at k held now (Some (asked_by own c))).0 held))
-      (sym hit) (by_command c))
-      (λ miss. subst
-      (λ b. HeldIn IsNew (cond b (step_at k held now (Some (asked_by own c))).0 held))
-      (sym miss) new)
+      ordered_keeps k now (HeldIn IsNew) held own c (λ hit. by_command c) new
     where
       at : (input : Input) → IsOrder (Some input)
           → HeldIn IsNew (step_at k held now (Some input)).0
@@ -770,8 +740,8 @@ module _ (k : Key) (client : role_of k ≡ role.Client) (now : ℕ) where
 
   pub new_run : (cs : List (Id × Command)) (held : Option Life) → HeldIn IsNew held
       → HeldIn IsNew (run k now held cs)
-  new_run [] held new = new
-  new_run (c ∷ cs) held new = new_run cs (ordered k now held c) (new_ordered held c new)
+  new_run cs =
+      run_keeps k now (HeldIn IsNew) cs (λ held own c among. new_ordered held (own, c))
 
   -- what arrives begins no client
   none_left : (o : Option Life) → ((life : Life) → o ≡ Some life → ⊥) → o ≡ None
@@ -794,17 +764,9 @@ module _ (k : Key) (client : role_of k ≡ role.Client) (now : ℕ) where
 
   pub none_then : (items : Items) (states : States) → AreArrivals items → states k ≡ None
       → states_then key_cmp transaction_machine states items k ≡ None
-  none_then [] states arrive none = none
-  none_then (item ∷ items) states arrive none =
-      none_then items (after_item states item) arrive.1
-      (by_bool (is_at (key_cmp item.key) k)
-      (λ hit. ap (λ b. cond b (next transaction_machine item.key (states item.key) item.input)
-      (states k)) hit
-      ∙ (ap (λ q. next transaction_machine q (states q) item.input)
-      (exact_at keys_total exact_keys item.key k hit)
-      ∙ none_at (states k) item.input.input item.input.moment arrive.0 none))
-      (λ miss. ap (λ b. cond b (next transaction_machine item.key (states item.key) item.input)
-      (states k)) miss ∙ none))
+  none_then items states arrive none =
+      kept_then k (λ held. held ≡ None) (λ timed. IsArrival timed.input)
+      (λ held timed. none_at held timed.input timed.moment) items states arrive none
 
   -- a life that is there after it
   pub going_new : (held : Option Life) (life : Life) (Came : Timed Input → Type 0)

@@ -1,11 +1,9 @@
 -- A round without events: each call takes a tick and reports of transactions that timed out.
-use Rattle.std.proofs.Common.{◌≡◌, ℕ, suc, Bool, true, false, cond, List, [], ◌∷◌, ◌++◌, map, refl, sym, ap, ◌∙◌, append-nil, subst}
-use Rattle.std.specs.Prelude.{◌&&◌, Option, None, Some, filter, if◌then◌else◌}
+use Rattle.std.proofs.Common.{◌≡◌, ℕ, suc, true, false, cond, List, [], ◌∷◌, map, refl, sym, ap, ◌∙◌, append-nil, subst}
+use Rattle.std.specs.Prelude.{Option, None, Some, filter}
 use Rattle.std.specs.BTreeMap.{is_at}
 use Rattle.std.specs.List.{AllByRecursion, flat_map}
-use Rattle.std.specs.Map.{lookup, values_of}
 use Rattle.std.specs.declared.cmp.Ordering.{Ordering}
-use Rattle.std.proofs.lemmas.Grind.{flat_map-append}
 use Rattle.sip_message.specs.Key.{key_cmp}
 use Rattle.sip_message.specs.declared.id.Id.{Id}
 use Rattle.sip_message.specs.declared.key.Key.{Key}
@@ -13,7 +11,6 @@ use Rattle.keyed_machine.specs.declared.item.Item as model
 use Rattle.keyed_machine.specs.Groups.{speaks}
 use Rattle.keyed_machine.specs.Machine.{Timed, adds, tick_at}
 use Rattle.keyed_machine.specs.Phase.{inputs_of, keys_of_phases, stepped, timed_items, told_items}
-use Rattle.sip_timers.specs.Queue.{is_due}
 use Rattle.sip_transactions.proofs.Rules.{at_steps}
 use Rattle.sip_transactions.specs.declared.life.Life.{Life}
 use Rattle.sip_transactions.specs.declared.output.DropReason.{DropReason}
@@ -24,35 +21,27 @@ use Rattle.sip_transactions.specs.declared.output.UpKind.TheVariants as kind
 use Rattle.sip_transactions.specs.Machine.{transaction_machine}
 use Rattle.sip_agent_laws.specs.Transactions.Timers.{IsQuiet, TicksAreQuiet}
 use Rattle.sip_agent_laws.proofs.transactions.Ticks as ticks
-use Rattle.sip_user.specs.declared.item.CallOut.{CallOut}
 use Rattle.sip_user.specs.declared.item.Item.{Item}
 use Rattle.sip_user.specs.declared.item.Item.TheVariants.{Up, User}
-use Rattle.sip_held_dialogs.specs.declared.held_dialog.DialogId.{DialogId}
-use Rattle.sip_held_dialogs.specs.declared.held_dialog.DialogReference.{DialogReference}
-use Rattle.sip_held_dialogs.specs.declared.held_dialog.HeldDialog.{HeldDialog}
-use Rattle.sip_held_dialogs.specs.Dialogs.{Dialogs, dialog_at, early_ended, ended_at, ended_notice, is_early_of, lives}
-use Rattle.sip_held_dialogs.specs.Ids.{is_id}
-use Rattle.sip_clients.specs.declared.client.Client.{Client}
-use Rattle.sip_clients.specs.Client.{Side}
-use Rattle.sip_clients.specs.Rules.Ends.{request_is_lost, request_over}
-use Rattle.sip_clients.specs.Rules.Requests.{dialog_of_kind}
 use Rattle.sip_calls.specs.declared.call.Call.{Call}
 use Rattle.sip_calls.specs.declared.calls.Calls.{Calls}
 use Rattle.sip_calls.specs.Call.{CallItem, call_machine, call_step, event_of, new_call, received}
 use Rattle.sip_calls.specs.CallShard.{call_cmp}
-use Rattle.sip_calls.specs.Idle.{call_ticks_are_idle}
 use Rattle.sip_calls.specs.Sides.{side_of}
-use Rattle.sip_agent_laws.specs.Calls.Rest.{IsAtRest, is_from_outside, is_message}
+use Rattle.sip_agent_laws.specs.Calls.Rest.{is_from_outside, is_message}
 use Rattle.sip_round.specs.declared.config.Config.{Config}
 use Rattle.sip_round.specs.declared.round.Round.{Round}
 use Rattle.sip_round.specs.Answers.{Past, calls_of, items_first, items_of_round}
 use Rattle.sip_round.specs.Arrivals.{Arrival, arrivals_from}
-use Rattle.sip_round.specs.Outputs.{command_of, joined, raised_of}
+use Rattle.sip_round.specs.Outputs.{joined, raised_of}
 use Rattle.sip_round.specs.Phases.{call_items, transaction_items}
+use Rattle.sip_agent_laws.proofs.agents.Commands.{orders}
 use Rattle.sip_agent_laws.proofs.agents.Items.{ItemIs, all_given, items_all}
-use Rattle.sip_agent_laws.proofs.agents.Linked.{calls_in, calls_ticked, came_in, first_ticks, first_told, given, given_is, items_are, lives_in, lives_ticked, second_items, second_ticks}
-use Rattle.sip_agent_laws.proofs.agents.Lists.{both, by_found, by_if}
-use Rattle.sip_agent_laws.proofs.agents.SecondPhase.{CallItems, CallStates, orders, says}
+use Rattle.sip_agent_laws.proofs.agents.Linked.{calls_ticked, came_in, first_ticks, first_told, items_are, lives_in, lives_ticked, second_items}
+use Rattle.sip_agent_laws.proofs.agents.CallServes.{lost_silent}
+use Rattle.sip_agent_laws.proofs.agents.ServedFrom.{both_silent}
+use Rattle.sip_agent_laws.proofs.agents.Lists.{both}
+use Rattle.sip_agent_laws.proofs.agents.SecondPhase.{CallItems, CallStates, says}
 
 -- ---- what comes up
 
@@ -191,43 +180,6 @@ inside_only config number past round none q =
 
 -- ---- what calls say to reports: no commands
 
-both_silent : (xs ys : List CallOut) → orders xs ≡ [] → orders ys ≡ [] → orders (xs ++ ys) ≡ []
-both_silent xs ys one other =
-    flat_map-append command_of xs ys ∙ (λ i. one i ++ other i)
-
-notices_silent : (ended : List HeldDialog) → orders (map ended_notice ended) ≡ []
-notices_silent [] = refl
-notices_silent (held ∷ ended) = notices_silent ended
-
-ended_silent : (name : DialogId) (dialogs : Dialogs) → orders (ended_at name dialogs).1 ≡ []
-ended_silent name dialogs =
-    by_found (λ outs. orders outs ≡ []) (λ held. ended_notice held ∷ []) (dialog_at name dialogs) []
-    (λ held is. refl) (λ none. refl)
-
-over_silent : (client : Client) (ends : Bool) (dialogs : Dialogs)
-    → orders (request_over client ends dialogs).1 ≡ []
-over_silent client ends dialogs =
-    let early = early_ended client.id dialogs in
-    both_silent early.1 _
-    (notices_silent (filter (is_early_of client.id) (values_of dialogs)))
-    (by_found (λ (ended : Dialogs × List CallOut). orders ended.1 ≡ [])
-    (λ (reference : DialogReference). if ends && lives early.0 reference
-    then ended_at reference.name early.0 else (early.0, []))
-    (dialog_of_kind client.kind) (early.0, [])
-    (λ reference is. by_if (λ (ended : Dialogs × List CallOut). orders ended.1 ≡ [])
-    (ends && lives early.0 reference) (ended_at reference.name early.0) (early.0, [])
-    (λ over. ended_silent reference.name early.0) (λ lives. refl))
-    (λ none. refl))
-
-lost_silent : (id : Id) (timed_out : Bool) (side : Side)
-    → orders (request_is_lost id timed_out side).1 ≡ []
-unfolding request_is_lost
-lost_silent id timed_out side =
-    by_found (λ (ended : Dialogs × List CallOut). orders ended.1 ≡ [])
-    (λ client. request_over client timed_out side.dialogs) (lookup (is_id id) side.clients)
-    (side.dialogs, []) (λ client is. over_silent client timed_out side.dialogs)
-    (λ none. refl)
-
 timeout_silent : (calls : Calls) (call : Call) (id : Id) (now : ℕ) (up : AnUp)
     → up.kind ≡ kind.Timeout
     → orders (received call (event_of calls id now) up up.kind).1 ≡ []
@@ -254,34 +206,13 @@ says_silent calls k now (item ∷ items) states all =
     (report_silent calls (states item.key) item.input.input item.input.moment all.0)
     (says_silent calls k now items (stepped call_cmp (call_machine calls) states item) all.1)
 
--- ---- calls at rest
-
-pub at_rest_idle : (calls : Calls) (q : List ℕ) (call : Option Call) (now : ℕ) → IsAtRest call
-    → call_step calls call None now ≡ (call, [])
-at_rest_idle calls q None now rests = refl
-at_rest_idle calls q (Some call) now rests =
-    call_ticks_are_idle calls now q (Some call) (ap (is_due now) rests.due)
-
-none_joined : (f : List ℕ → List CallOut) (keys : List (List ℕ)) → ((q : List ℕ) → f q ≡ [])
-    → orders (joined (map (λ q. (q, f q)) keys)) ≡ []
-none_joined f [] none = refl
-none_joined f (q ∷ keys) none =
-    both_silent (f q) _ (ap orders (none q)) (none_joined f keys none)
-
--- if all calls are at rest, a round without events gives the transactions no commands
-pub no_orders : (config : Config) (number : ℕ) (past : Past) (round : Round) (k : Key)
-    → round.events ≡ [] → ((q : List ℕ) → IsAtRest (calls_in config past q))
-    → orders (given config number past round) ≡ []
-no_orders config number past round k none rest =
-    ap orders (given_is config number past round k)
-    ∙ both_silent (joined (second_ticks config number past round)) _
-    (none_joined
-    (λ q. adds (call_machine (calls_of config)) q (calls_in config past q) (tick_at round.moment))
-    (filter (λ q. speaks (adds (call_machine (calls_of config)) q (calls_in config past q)
-    (tick_at round.moment))) (keys_of_phases call_cmp past.calls))
-    (λ q. ap (λ (taken : Option Call × List CallOut). taken.1)
-    (at_rest_idle (calls_of config) q (calls_in config past q) round.moment (rest q))))
-    (says_silent (calls_of config) k round.moment (second_items config number past round)
+-- so in a round without events calls give commands at their ticks alone
+pub reports_silent : (config : Config) (number : ℕ) (past : Past) (round : Round)
+    → round.events ≡ [] → (k : Key)
+    → orders (says (calls_of config) k round.moment (calls_ticked config number past round)
+    (second_items config number past round)) ≡ []
+reports_silent config number past round none k =
+    says_silent (calls_of config) k round.moment (second_items config number past round)
     (calls_ticked config number past round)
     (all_given round.moment ReportsTimeout 0 (items_of_round config number past round)
-    (no_users config number past round none)))
+    (no_users config number past round none))

@@ -56,15 +56,16 @@ use Rattle.sip_round.proofs.OwnItems.{second_own}
 use Rattle.sip_round.proofs.Said.{calls_say, transactions_say}
 use Rattle.sip_round.proofs.StartedOnce.{ticks_start}
 use Rattle.sip_agent_laws.specs.Agents.Open.{is_open}
-use Rattle.sip_agent_laws.proofs.agents.CallHeld.{InputIsHarmless, IsHarmless, mild_status, tick_asked, tick_served}
+use Rattle.sip_agent_laws.proofs.agents.CallHeld.{InputIsHarmless, IsHarmless, mild_status, tick_asked}
+use Rattle.sip_agent_laws.proofs.agents.CallServes.{came_with, tick_served}
 use Rattle.sip_agent_laws.proofs.agents.ClientsHeld as client_side
-use Rattle.sip_agent_laws.proofs.agents.Commands.{IsLeft, ordered, run, run_on}
+use Rattle.sip_agent_laws.proofs.agents.Commands.{IsLeft, ordered, run, run_on, orders}
 use Rattle.sip_agent_laws.proofs.agents.FirstOuts.{AreReceived, AreStarted, IsFrom, KindIsFrom, OutIsFrom, RequestCame, items_from, received_then, received_ticked, started_then, started_ticked, ticks_from}
 use Rattle.sip_agent_laws.proofs.agents.FirstPhase.{AreArrivals, AreMild, ComesUp, States, client_then, client_was, server_then, server_ticked}
 use Rattle.sip_agent_laws.proofs.agents.Items.{ItemIs, all_given, arrivals_arrive, item_given, items_all, request_among, requests_among, up_among}
 use Rattle.sip_agent_laws.proofs.agents.Lists.{Among, among_left, among_right}
 use Rattle.sip_agent_laws.proofs.agents.OpenLives.{IsMild, KindIsMild, is_server}
-use Rattle.sip_agent_laws.proofs.agents.SecondPhase.{AskedLinked, Brings, CallStates, IsAsked, IsServed, ServedLinked, fewer_counted, in_parts, among_orders, among_starts, asked_sim, never_twice, only_key, orders, says, served_sim}
+use Rattle.sip_agent_laws.proofs.agents.SecondPhase.{AskedLinked, Brings, CallStates, IsAsked, IsServed, ServedLinked, fewer_counted, in_parts, among_orders, among_starts, asked_sim, never_twice, only_key, says, served_sim}
 use Rattle.sip_agent_laws.proofs.agents.ServedHeld as server_side
 use Rattle.sip_agent_laws.proofs.agents.Sound.{Behind, sound_items}
 
@@ -344,14 +345,7 @@ module _ (config : Config) (number : ℕ) (past : Past) (round : Round) where
           given_item.1,
           record {
             to = given_item.2;
-            event = there.0;
-            up = up;
-            message = came_up.0;
-            reply_to = came_up.1;
-            is = given_item.3;
-            key_is = refl;
-            id_is = refl;
-            kind_is = refl;
+            is = ap came_with given_item.3;
           },
         )
 

@@ -50,7 +50,7 @@ use Rattle.sip_round.specs.CallsHeld.{call_after}
 use Rattle.sip_round.specs.Live.{live_of}
 use Rattle.sip_round.proofs.Runs.{past_from-append}
 use Rattle.sip_agent_laws.specs.Agents.AtRest.{AreWithoutEvents}
-use Rattle.sip_agent_laws.specs.Agents.NothingLeft.{IsSettled, NoTransactionStays, NothingStays}
+use Rattle.sip_agent_laws.specs.Agents.NothingLeft.{NoTransactionStays, NothingStays}
 use Rattle.sip_agent_laws.specs.Agents.Open.{HoldsInvite, HoldsOfPeer, HoldsOpen, is_open, life_after}
 use Rattle.sip_agent_laws.proofs.agents.Idle.{inside_only}
 use Rattle.sip_agent_laws.proofs.agents.Linked.{calls_in}
@@ -61,9 +61,11 @@ use Rattle.sip_agent_laws.proofs.agents.RestFrom.{at_rest, calls_longer}
 
 -- ---- the client requests of a call after a tick or a report
 
+abbrev pub IsInvite : Id × Client → Type 0
+IsInvite entry = is_invite_kind entry.1.kind ≡ true
+
 abbrev pub AreInvites : Clients → Type 0
-AreInvites clients =
-    AllByRecursion (λ (entry : Id × Client). is_invite_kind entry.1.kind ≡ true) clients
+AreInvites clients = AllByRecursion IsInvite clients
 
 none_awaited : (clients : Clients)
     → list_any (λ (client : Client). not (is_invite_kind client.kind)) (values_of clients) ≡ false
@@ -144,37 +146,18 @@ module _ (P : Id × Client → Type 0) where
   step_keeps calls call (Some (event, User c)) now inside all =
       absurd (false≢true (sym inside))
 
-  pub all_keep : (calls : Calls) (inputs : List (Timed CallItem)) (call : Option Call)
+-- ---- what each tick and each report of a call keeps
+
+module _ (calls : Calls) (P : Option Call → Type 0)
+    (keeps : (call : Option Call) (input : Option CallItem) (now : ℕ)
+    → is_from_outside input ≡ false → P call → P (call_step calls call input now).0) where
+  pub from_keeps : (inputs : List (Timed CallItem)) (call : Option Call)
       → AllByRecursion (λ (timed : Timed CallItem). is_from_outside timed.input ≡ false) inputs
-      → AllAre call → AllAre (call_from calls call inputs)
-  all_keep calls [] call inside all = all
-  all_keep calls (input ∷ inputs) call inside all =
-      all_keep calls inputs (call_step calls call input.input input.moment).0 inside.1
-      (step_keeps calls call input.input input.moment inside.0 all)
-
--- ---- a call after ticks and reports
-
-step_settled : (calls : Calls) (call : Option Call) (input : Option CallItem) (now : ℕ)
-    → is_from_outside input ≡ false → IsSettled call
-    → IsSettled (call_step calls call input now).0
-step_settled calls call input now inside settled = record {
-  user = λ one. by_bool (call_waits.waits one (call_step calls call input now).0)
-      (λ waits. absurd (false≢true (sym (settled.user one)
-      ∙ others_add_nothing calls call input now inside one waits)))
-      (λ none. none);
-  transaction = invites_alone (side_held (call_step calls call input now).0).clients
-      (step_keeps (λ (entry : Id × Client). is_invite_kind entry.1.kind ≡ true) calls call input
-      now inside
-      (none_awaited (side_held call).clients settled.transaction));
-}
-
-settled_from : (calls : Calls) (inputs : List (Timed CallItem)) (call : Option Call)
-    → AllByRecursion (λ (timed : Timed CallItem). is_from_outside timed.input ≡ false) inputs
-    → IsSettled call → IsSettled (call_from calls call inputs)
-settled_from calls [] call inside settled = settled
-settled_from calls (input ∷ inputs) call inside settled =
-    settled_from calls inputs (call_step calls call input.input input.moment).0 inside.1
-    (step_settled calls call input.input input.moment inside.0 settled)
+      → P call → P (call_from calls call inputs)
+  from_keeps [] call inside holds = holds
+  from_keeps (input ∷ inputs) call inside holds =
+      from_keeps inputs (call_step calls call input.input input.moment).0 inside.1
+      (keeps call input.input input.moment inside.0 holds)
 
 pub call_on : (calls : Calls) (call : Option Call) (before after : List (Timed CallItem))
     → call_from calls call (before ++ after)
@@ -183,39 +166,52 @@ call_on calls call [] after = refl
 call_on calls call (input ∷ before) after =
     call_on calls (call_step calls call input.input input.moment).0 before after
 
-module _ (config : Config) where
-  round_settled : (number : ℕ) (past : Past) (round : Round) → round.events ≡ []
-      → (q : List ℕ) → IsSettled (calls_in config past q)
-      → IsSettled (calls_in config (past_after config number past round) q)
-  round_settled number past round none q settled =
-      let calls = calls_of config in
-      let before = given_to past.calls q in
-      let after = own config number past round q in
-      subst IsSettled
-      (sym (call_on calls None before after)
-      ∙ (ap (call_from calls None) (sym (calls_longer config number past round q))
-      ∙ same_call calls q None (given_to (past_after config number past round).calls q)))
-      (settled_from calls after (call_from calls None before)
-      (refl, inside_only config number past round none q)
-      (subst IsSettled (sym (same_call calls q None before)) settled))
+-- is true after rounds without events, if it was before
+module _ (config : Config) (P : Option Call → Type 0)
+    (keeps : (call : Option Call) (input : Option CallItem) (now : ℕ)
+    → is_from_outside input ≡ false → P call → P (call_step (calls_of config) call input now).0)
+  where
+    round_keeps : (number : ℕ) (past : Past) (round : Round) → round.events ≡ []
+        → (q : List ℕ) → P (calls_in config past q)
+        → P (calls_in config (past_after config number past round) q)
+    round_keeps number past round none q holds =
+        let calls = calls_of config in
+        let before = given_to past.calls q in
+        let after = own config number past round q in
+        subst P
+        (sym (call_on calls None before after)
+        ∙ (ap (call_from calls None) (sym (calls_longer config number past round q))
+        ∙ same_call calls q None (given_to (past_after config number past round).calls q)))
+        (from_keeps calls P keeps after (call_from calls None before)
+        (refl, inside_only config number past round none q)
+        (subst P (sym (same_call calls q None before)) holds))
 
-  rounds_settled : (rounds : List Round) (number : ℕ) (past : Past) → AreWithoutEvents rounds
-      → ((q : List ℕ) → IsSettled (calls_in config past q))
-      → (q : List ℕ) → IsSettled (calls_in config (past_from config number past rounds) q)
-  rounds_settled [] number past none settled = settled
-  rounds_settled (round ∷ rounds) number past none settled =
-      rounds_settled rounds (suc number) (past_after config number past round) none.1
-      (λ q. round_settled number past round none.0 q (settled q))
+    rounds_keep : (rounds : List Round) (number : ℕ) (past : Past) → AreWithoutEvents rounds
+        → (q : List ℕ) → P (calls_in config past q)
+        → P (calls_in config (past_from config number past rounds) q)
+    rounds_keep [] number past none q holds = holds
+    rounds_keep (round ∷ rounds) number past none q holds =
+        rounds_keep rounds (suc number) (past_after config number past round) none.1 q
+        (round_keeps number past round none.0 q holds)
 
-  all_settled : (rounds idle : List Round) → AreWithoutEvents idle
-      → ((q : List ℕ) → IsSettled (call_after config rounds q))
-      → (q : List ℕ) → IsSettled (call_after config (rounds ++ idle) q)
-  unfolding past_of
-  all_settled rounds idle none settled q =
-      subst (λ past. IsSettled (calls_in config past q))
-      (sym (past_from-append config config.first no_past rounds idle))
-      (rounds_settled idle (config.first + length rounds)
-      (past_from config config.first no_past rounds) none settled q)
+    idle_keeps : (rounds idle : List Round) → AreWithoutEvents idle
+        → (q : List ℕ) → P (call_after config rounds q) → P (call_after config (rounds ++ idle) q)
+    unfolding past_of
+    idle_keeps rounds idle none q holds =
+        subst (λ past. P (calls_in config past q))
+        (sym (past_from-append config config.first no_past rounds idle))
+        (rounds_keep idle (config.first + length rounds)
+        (past_from config config.first no_past rounds) none q holds)
+
+-- nothing waits still
+nothing_kept : (calls : Calls) (call : Option Call) (input : Option CallItem) (now : ℕ)
+    → is_from_outside input ≡ false → NothingWaits call
+    → NothingWaits (call_step calls call input now).0
+nothing_kept calls call input now inside none = λ one.
+    by_bool (call_waits.waits one (call_step calls call input now).0)
+    (λ waits. absurd (false≢true (sym (none one)
+    ∙ others_add_nothing calls call input now inside one waits)))
+    (λ no. no)
 
 -- ---- nothing is held
 
@@ -259,58 +255,12 @@ client_not Confirmed is = false≢true is
 nothing_found : {X : Type 0} (x : X) → None ≡ Some x → ⊥
 nothing_found x same = absurd cc
 
--- without a call nothing waits
-none_holds : (r : Role) (state : State) (key : Key) (id : Id) → waits r state ≡ true
-    → HoldsOpen r None key id → ⊥
-none_holds role.InviteClient state key id is holds = nothing_found holds.client holds.found
-none_holds role.Client state key id is holds = client_not state is
-none_holds role.InviteServer state key id is holds = nothing_found holds.held holds.found
-none_holds role.Server state key id is holds = nothing_found holds.held holds.found
-
 pub counts_none : {X : Type 0} (test : X → Bool) (xs : List X) → ((x : X) → test x ≡ false)
     → count_by test xs ≡ 0
 counts_none test [] none = refl
 counts_none test (x ∷ xs) none =
     let here = ap {B = ℕ} (λ b. cond b 1 0) (none x) in
     omega (arith, sum_by-cons (λ y. cond (test y) 1 0) x xs, here, counts_none test xs none)
-
-module _ (config : Config) (rounds : List Round)
-    (calls : (call_id : List ℕ) → call_after config rounds call_id ≡ None)
-    (lives : (key : Key) → is_gone_or_waits (role_of key) (life_after config rounds key) ≡ true)
-  where
-    no_life : (key : Key) (held : Option Life) → life_after config rounds key ≡ held
-        → is_gone_or_waits (role_of key) held ≡ true → held ≡ None
-    no_life key None is gone = refl
-    no_life key (Some life) is waiting =
-        absurd (none_holds (role_of key) life.state key life.context.id waiting
-        (subst (λ call. HoldsOpen (role_of key) call key life.context.id)
-        (calls life.context.call_id)
-        (each_open_is_held config rounds key life is
-        (waits_open (role_of key) life.state waiting))))
-
-    pub nothing_live : live_of config (past_of config rounds) ≡ (0, 0)
-    nothing_live =
-        λ i. (
-          counts_none (λ key. is_some (life_after config rounds key))
-              (keys_of_phases key_cmp (past_of config rounds).transactions)
-              (λ key. ap is_some (no_life key (life_after config rounds key) refl (lives key))) i,
-          counts_none (λ call_id. is_some (call_after config rounds call_id))
-              (keys_of_phases call_cmp (past_of config rounds).calls)
-              (λ call_id. ap is_some (calls call_id)) i,
-        )
-
-pub nothing_stays : NothingStays
-nothing_stays config first second rounds idle later settled one two =
-    let all = (rounds ++ idle) ++ later in
-    let rest = at_rest config first second rounds idle later one two in
-    nothing_live config all
-    (λ call_id.
-    let end = all_settled config (rounds ++ idle) later two.none
-    (all_settled config rounds idle one.none settled) call_id in
-    nothing_left (call_after config all call_id) (rest.calls call_id) end.user end.transaction)
-    rest.transactions
-
--- ---- transactions alone
 
 any_among : {X : Type 0} (test : X → Bool) (xs : List X) (x : X) → Among xs x → test x ≡ true
     → list_any test xs ≡ true
@@ -370,74 +320,47 @@ open_waits role.InviteServer state call key id is holds none =
 open_waits role.Server state call key id is holds none =
     false≢true (sym (none (OfPeer id)) ∙ peer_waits call key id holds)
 
-step_nothing : (calls : Calls) (inputs : List (Timed CallItem)) (call : Option Call)
-    → AllByRecursion (λ (timed : Timed CallItem). is_from_outside timed.input ≡ false) inputs
-    → NothingWaits call → NothingWaits (call_from calls call inputs)
-step_nothing calls [] call inside none = none
-step_nothing calls (input ∷ inputs) call inside none =
-    step_nothing calls inputs (call_step calls call input.input input.moment).0 inside.1
-    (λ one. by_bool (call_waits.waits one (call_step calls call input.input input.moment).0)
-    (λ waits. absurd (false≢true (sym (none one)
-    ∙ others_add_nothing calls call input.input input.moment inside.0 one waits)))
-    (λ no. no))
+module _ (config : Config) (rounds : List Round)
+    (none : (call_id : List ℕ) → NothingWaits (call_after config rounds call_id))
+    (lives : (key : Key) → is_gone_or_waits (role_of key) (life_after config rounds key) ≡ true)
+  where
+    life_gone : (key : Key) (held : Option Life) → life_after config rounds key ≡ held
+        → is_gone_or_waits (role_of key) held ≡ true → held ≡ None
+    life_gone key None is gone = refl
+    life_gone key (Some life) is waiting =
+        absurd (open_waits (role_of key) life.state
+        (call_after config rounds life.context.call_id) key life.context.id waiting
+        (each_open_is_held config rounds key life is
+        (waits_open (role_of key) life.state waiting))
+        (none life.context.call_id))
 
-module _ (config : Config) where
-  round_nothing : (number : ℕ) (past : Past) (round : Round) → round.events ≡ []
-      → (q : List ℕ) → NothingWaits (calls_in config past q)
-      → NothingWaits (calls_in config (past_after config number past round) q)
-  round_nothing number past round none q settled =
-      let calls = calls_of config in
-      let before = given_to past.calls q in
-      let after = own config number past round q in
-      subst NothingWaits
-      (sym (call_on calls None before after)
-      ∙ (ap (call_from calls None) (sym (calls_longer config number past round q))
-      ∙ same_call calls q None (given_to (past_after config number past round).calls q)))
-      (step_nothing calls after (call_from calls None before)
-      (refl, inside_only config number past round none q)
-      (subst NothingWaits (sym (same_call calls q None before)) settled))
-
-  rounds_nothing : (rounds : List Round) (number : ℕ) (past : Past) → AreWithoutEvents rounds
-      → ((q : List ℕ) → NothingWaits (calls_in config past q))
-      → (q : List ℕ) → NothingWaits (calls_in config (past_from config number past rounds) q)
-  rounds_nothing [] number past none settled = settled
-  rounds_nothing (round ∷ rounds) number past none settled =
-      rounds_nothing rounds (suc number) (past_after config number past round) none.1
-      (λ q. round_nothing number past round none.0 q (settled q))
-
-  all_nothing : (rounds idle : List Round) → AreWithoutEvents idle
-      → ((q : List ℕ) → NothingWaits (call_after config rounds q))
-      → (q : List ℕ) → NothingWaits (call_after config (rounds ++ idle) q)
-  unfolding past_of
-  all_nothing rounds idle none settled q =
-      subst (λ past. NothingWaits (calls_in config past q))
-      (sym (past_from-append config config.first no_past rounds idle))
-      (rounds_nothing idle (config.first + length rounds)
-      (past_from config config.first no_past rounds) none settled q)
-
-  module _ (rounds : List Round)
-      (none : (call_id : List ℕ) → NothingWaits (call_after config rounds call_id))
-      (lives : (key : Key) → is_gone_or_waits (role_of key) (life_after config rounds key) ≡ true)
-    where
-      life_gone : (key : Key) (held : Option Life) → life_after config rounds key ≡ held
-          → is_gone_or_waits (role_of key) held ≡ true → held ≡ None
-      life_gone key None is gone = refl
-      life_gone key (Some life) is waiting =
-          absurd (open_waits (role_of key) life.state
-          (call_after config rounds life.context.call_id) key life.context.id waiting
-          (each_open_is_held config rounds key life is
-          (waits_open (role_of key) life.state waiting))
-          (none life.context.call_id))
-
-      no_transaction : (live_of config (past_of config rounds)).0 ≡ 0
-      no_transaction =
-          counts_none (λ key. is_some (life_after config rounds key))
-          (keys_of_phases key_cmp (past_of config rounds).transactions)
-          (λ key. ap is_some (life_gone key (life_after config rounds key) refl (lives key)))
+    no_transaction : (live_of config (past_of config rounds)).0 ≡ 0
+    no_transaction =
+        counts_none (λ key. is_some (life_after config rounds key))
+        (keys_of_phases key_cmp (past_of config rounds).transactions)
+        (λ key. ap is_some (life_gone key (life_after config rounds key) refl (lives key)))
 
 pub no_transaction_stays : NoTransactionStays
-no_transaction_stays config first second rounds idle later settled one two =
-    no_transaction config ((rounds ++ idle) ++ later)
-    (all_nothing config (rounds ++ idle) later two.none
-    (all_nothing config rounds idle one.none settled))
-    (at_rest config first second rounds idle later one two).transactions
+no_transaction_stays config moment rounds idle none quiet =
+    no_transaction config (rounds ++ idle)
+    (λ q. idle_keeps config NothingWaits (nothing_kept (calls_of config)) rounds idle quiet.none q
+    (none q))
+    (at_rest config moment rounds idle quiet).transactions
+
+pub nothing_stays : NothingStays
+nothing_stays config moment rounds idle settled quiet =
+    let all = rounds ++ idle in
+    let gone : (call_id : List ℕ) → call_after config all call_id ≡ None = λ q.
+    nothing_left (call_after config all q) ((at_rest config moment rounds idle quiet).calls q)
+    (idle_keeps config NothingWaits (nothing_kept (calls_of config)) rounds idle quiet.none q
+    (settled q).user)
+    (invites_alone (side_held (call_after config all q)).clients
+    (idle_keeps config (AllAre IsInvite) (step_keeps IsInvite (calls_of config)) rounds idle
+    quiet.none q (none_awaited (side_held (call_after config rounds q)).clients
+    (settled q).transaction))) in
+    λ i. (
+      no_transaction_stays config moment rounds idle (λ q. (settled q).user) quiet i,
+      counts_none (λ call_id. is_some (call_after config all call_id))
+          (keys_of_phases call_cmp (past_of config all).calls)
+          (λ call_id. ap is_some (gone call_id)) i,
+    )

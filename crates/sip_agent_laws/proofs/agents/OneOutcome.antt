@@ -56,7 +56,7 @@ use Rattle.sip_agent_laws.specs.Agents.Open.{is_open}
 use Rattle.sip_agent_laws.specs.Agents.Outcomes.{AtMostOneIsTold, outcomes_told, tells_outcome}
 use Rattle.sip_agent_laws.specs.Transactions.Outcomes.{is_outcome}
 use Rattle.sip_agent_laws.proofs.agents.Apart.{requests_from, starts_from}
-use Rattle.sip_agent_laws.proofs.agents.Commands.{run, run_on}
+use Rattle.sip_agent_laws.proofs.agents.Commands.{run, run_on, orders}
 use Rattle.sip_agent_laws.proofs.agents.EachOutcome.{number_from, walk}
 use Rattle.sip_agent_laws.proofs.agents.FirstOuts.{KindIsFrom, OutIsFrom, items_from, received_ticked, started_ticked, ticks_from}
 use Rattle.sip_agent_laws.proofs.agents.Going.{open_lacks}
@@ -66,7 +66,7 @@ use Rattle.sip_agent_laws.proofs.agents.LinkedRounds.{IsFair, all_fair, apart_no
 use Rattle.sip_agent_laws.proofs.agents.Lists.{Among, among_left}
 use Rattle.sip_agent_laws.proofs.agents.OneUp.{came, count_both, count_first, count_less, count_miss, items_once, left, mine, one_step, ticks_once}
 use Rattle.sip_agent_laws.proofs.agents.OpenLives.{is_server}
-use Rattle.sip_agent_laws.proofs.agents.SecondPhase.{among_ids, among_orders, among_starts, only_key, orders, says, some_counted}
+use Rattle.sip_agent_laws.proofs.agents.SecondPhase.{among_ids, among_orders, among_starts, only_key, says, some_counted}
 use Rattle.sip_agent_laws.proofs.calls.OneTold.{brings_outcome, counted, one_told, tells_of}
 use Rattle.sip_agent_laws.proofs.transactions.Ends.{lack, lacks}
 
@@ -387,9 +387,6 @@ module _ (config : Config) (number : ℕ) (past : Past) (round : Round) (rounds 
       (apart_now config number past round rounds said before fair)
       (behind_now config number past round rounds said before fair) fair.own_calls)
       (λ never. absurd never)
-
-  abbrev came_up : List Out → ℕ
-  came_up outs = came k client x outs
 
   -- so it is given to calls at most once, if it may still come up
   pub brought_once : brought x (items config number past round)

@@ -1,5 +1,5 @@
 -- The request of a transaction without a final response is held by its call.
-use Rattle.std.proofs.Common.{◌≡◌, ⊎_elim, true, List, [], ◌∷◌, refl, sym, ap, ◌∙◌}
+use Rattle.std.proofs.Common.{◌≡◌, ⊎_elim, true, List, [], ◌∷◌, map, refl, sym, ap, ◌∙◌}
 use Rattle.std.specs.Prelude.{Option, Some, codes, find, if◌then◌else◌}
 use Rattle.std.specs.Str.{bytes_eq}
 use Rattle.std.proofs.lemmas.Bool.{false≢true}
@@ -9,6 +9,7 @@ use Rattle.sip_message.specs.Key.{method_in}
 use Rattle.sip_message.specs.declared.id.Id.{Id}
 use Rattle.sip_message.specs.declared.key.Key.{Key}
 use Rattle.sip_message.specs.declared.key.Key.TheVariants as key
+use Rattle.sip_transactions.specs.Ids.{IdsRise}
 use Rattle.sip_transactions.specs.declared.state.Role.{Role}
 use Rattle.sip_transactions.specs.declared.state.Role.TheVariants as role
 use Rattle.sip_transactions.specs.Steps.Input.{is_same_method, role_of}
@@ -25,8 +26,7 @@ use Rattle.sip_agent_laws.proofs.agents.ClientsHeld as client_side
 use Rattle.sip_agent_laws.proofs.agents.Lists.{Among, found_among, found_passes}
 use Rattle.sip_agent_laws.proofs.agents.OpenLives.{is_server}
 use Rattle.sip_agent_laws.proofs.agents.ServedHeld as server_side
-use Rattle.sip_agent_laws.proofs.agents.ServedHeld.{AreApart}
-use Rattle.sip_agent_laws.proofs.agents.Sound.{apart_of}
+use Rattle.sip_agent_laws.proofs.agents.ServedHeld.{apart_of}
 
 -- ---- what is held under an id is found under it
 
@@ -46,24 +46,25 @@ some_found id (first ∷ requests) held among is =
 same_ids : (one other id : Id) → is_id one id ≡ true → other ≡ id → is_id one other ≡ true
 same_ids one other id is same = ap (λ i. is_id one i) same ∙ is
 
-of_peer : (requests : List HeldRequest) (key : Key) (id : Id) → AreApart requests
-    → (ours : server_side.Holds key id requests)
+of_peer : (requests : List HeldRequest) (key : Key) (id : Id)
+    → IdsRise (map (λ held. held.id) requests) → (ours : server_side.Holds key id requests)
     → find (has_id id) requests ≡ Some ours.0
-of_peer requests key id apart ours =
+of_peer requests key id rise ours =
     let passes : has_id id ours.0 ≡ true =
     ap (λ i. is_id i id) (ours.2).id_is ∙ client_side.id_itself id in
     let found = some_found id requests ours.0 ours.1 passes in
     let same : found.0 ≡ ours.0 =
-    apart found.0 ours.0 (found_among (has_id id) requests found.0 found.1) ours.1
+    apart_of requests rise found.0 ours.0 (found_among (has_id id) requests found.0 found.1) ours.1
     (same_ids found.0.id ours.0.id id (found_passes (has_id id) requests found.0 found.1)
     (ours.2).id_is) in
     found.1 ∙ ap (λ h. Some h) same
 
-holds_of_peer : (call : Option Call) (key : Key) (id : Id) → AreApart (requests_held call)
+holds_of_peer : (call : Option Call) (key : Key) (id : Id)
+    → IdsRise (map (λ held. held.id) (requests_held call))
     → server_side.Holds key id (requests_held call) → HoldsOfPeer call key id
-holds_of_peer call key id apart ours = record {
+holds_of_peer call key id rise ours = record {
   held = ours.0;
-  found = of_peer (requests_held call) key id apart ours;
+  found = of_peer (requests_held call) key id rise ours;
   key_is = (ours.2).key_is;
   unanswered = (ours.2).unanswered;
 }
@@ -97,14 +98,11 @@ each_open_is_held config rounds k life is still = by_role (role_of k) refl
     call : Option Call
     call = call_after config rounds life.context.call_id
 
-    apart : AreApart (requests_held call)
-    apart = apart_of (requests_held call)
-        (requests_held_by_id config rounds life.context.call_id)
-
     serves : (r : Role) → role_of k ≡ r → is_server r ≡ true
         → HoldsOfPeer call k life.context.id
     serves r same server =
-        holds_of_peer call k life.context.id apart
+        holds_of_peer call k life.context.id
+        (requests_held_by_id config rounds life.context.call_id)
         ((rounds_linked config rounds).2.served k (ap is_server same ∙ server) life is still)
 
     by_role : (r : Role) → role_of k ≡ r → HoldsOpen r call k life.context.id

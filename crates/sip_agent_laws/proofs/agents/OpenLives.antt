@@ -25,21 +25,21 @@ use Rattle.sip_transactions.specs.declared.state.State.{State}
 use Rattle.sip_transactions.specs.declared.step.UpAction.{UpAction}
 use Rattle.sip_transactions.specs.declared.step.UpAction.TheVariants as up
 use Rattle.sip_transactions.specs.declared.step.Step.{Step}
-use Rattle.sip_transactions.specs.declared.trigger.Class.{Class}
 use Rattle.sip_transactions.specs.declared.trigger.Class.TheVariants as class
 use Rattle.sip_transactions.specs.declared.trigger.Trigger.{Trigger}
 use Rattle.sip_transactions.specs.declared.trigger.Trigger.TheVariants as on
 use Rattle.sip_timers.specs.Queue.{is_due}
-use Rattle.sip_transactions.specs.Steps.Input.{answer_of, arrival_of, arrived_in, class_of, is_same_method, message_in, role_of, tick_of, trigger_of}
+use Rattle.sip_transactions.specs.Steps.Input.{answer_of, arrival_of, arrived_in, is_same_method, message_in, role_of, tick_of, trigger_of}
 use Rattle.sip_transactions.specs.Steps.Life.{acted_if, armed, begun, context_by, context_of, entered, keeps_request, last_of, life_after, life_in, state_of}
 use Rattle.sip_transactions.specs.Rules.Step.{step_at}
 use Rattle.sip_transactions.proofs.Rules.{step_is}
-use Rattle.sip_transactions.specs.Steps.Output.{arrived_out, handed_out, kind_of, made_bytes, outputs_of, send_out, sent_bytes}
+use Rattle.sip_transactions.specs.Steps.Output.{arrived_out, handed_out, kind_of, made_bytes, outputs_of}
 use Rattle.sip_transactions.specs.Rows.{rows_of}
 use Rattle.sip_transactions.proofs.LawSteps.{RowFor, by_step, is_message, is_request}
 use Rattle.sip_transactions.proofs.RowFacts.{and-left, and-right, row_passes, table_passes}
 use Rattle.sip_agent_laws.specs.Agents.Open.{is_open}
-use Rattle.sip_agent_laws.proofs.agents.Lists.{Among, among_left, both}
+use Rattle.sip_agent_laws.proofs.agents.Lists.{Among, among_left}
+use Rattle.sip_agent_laws.proofs.transactions.Inputs.{outputs_each, ups_each}
 
 -- ---- the rows
 
@@ -202,11 +202,6 @@ early_kind message reply_to (start.Response status reason) is early = (
   early_status (status == 100) (nat_lt status 200) (nat_lt status 300) status refl refl early,
 )
 
-none_early : (o : Option Trigger) (trigger : Trigger) → o ≡ Some trigger
-    → is_early (unwrap_or o on.Ack) ≡ false → is_early trigger ≡ true → ⊥
-none_early o trigger is late early =
-    false≢true (sym late ∙ (ap (λ p. is_early (unwrap_or p on.Ack)) is ∙ early))
-
 due_late : (ending repeat : Bool)
     → is_early (unwrap_or (if ending then Some on.TimeoutDue else if repeat
     then Some on.RetransmitDue else None) on.Ack) ≡ false
@@ -248,22 +243,13 @@ handed_mild k context held now input trigger up.Timeout is mild = absurd (false�
 handed_mild k context held now input trigger up.Failed is mild = absurd (false≢true mild)
 handed_mild k context held now input trigger up.NoTransaction is mild = (tt, tt)
 
-sends_mild : (k : Key) (to : Addr) (bytes : Option (List ℕ))
-    → AllByRecursion IsMild (option_to_list (option_map (send_out k to) bytes))
-sends_mild k to None = tt
-sends_mild k to (Some bytes) = (tt, tt)
-
 outputs_mild : (k : Key) (context : Context) (held : Option Life) (now : ℕ) (input : Option Input)
     (trigger : Trigger) (step : Step) (made : Option (List ℕ))
     → trigger_of held now input ≡ Some trigger → is_mild trigger step.handed ≡ true
     → AllByRecursion IsMild (outputs_of k context step made (arrived_in input))
-unfolding outputs_of
 outputs_mild k context held now input trigger step made is mild =
-    both IsMild (option_to_list (handed_out k context step.handed (arrived_in input)))
-    (option_to_list (option_map (send_out k context.to)
-    (sent_bytes context.last step.sent made)))
+    outputs_each IsMild k context (λ bytes. tt) step made (arrived_in input)
     (handed_mild k context held now input trigger step.handed is mild)
-    (sends_mild k context.to (sent_bytes context.last step.sent made))
 
 -- ---- a life that is held
 
@@ -473,11 +459,6 @@ UpIsOf k held (out.Up up) = (up.key ≡ k) × KindIsOf up.kind
 UpIsOf k held (out.Send key to bytes) = Unit {0}
 UpIsOf k held (out.Dropped place why) = Unit {0}
 
-ups_sent : (k : Key) (held : Option Life) (to : Addr) (bytes : Option (List ℕ))
-    → AllByRecursion (UpIsOf k held) (option_to_list (option_map (send_out k to) bytes))
-ups_sent k held to None = tt
-ups_sent k held to (Some bytes) = (tt, tt)
-
 any_kind : (kind : UpKind) (Held : Type 0) → Held → KindIsOf kind Held
 any_kind (kind.Request request reply_to) Held it = tt
 any_kind (kind.Ack ack) Held it = tt
@@ -485,30 +466,21 @@ any_kind (kind.Response response) Held it = it
 any_kind kind.Timeout Held it = it
 any_kind kind.Failed Held it = it
 
-held_handed : (k : Key) (life : Life) (handed : UpAction) (arrived : Option (Message × Addr))
-    → AllByRecursion (UpIsOf k (Some life))
-    (option_to_list (handed_out k life.context handed arrived))
-unfolding handed_out
-held_handed k life up.Nothing arrived = tt
-held_handed k life up.Message None = tt
-held_handed k life up.Message (Some arrived) =
-    ((refl, any_kind (kind_of arrived.0.start arrived.0 arrived.1) _ (life, refl, refl)), tt)
-held_handed k life up.Timeout arrived = ((refl, (life, refl, refl)), tt)
-held_handed k life up.Failed arrived = ((refl, (life, refl, refl)), tt)
-held_handed k life up.NoTransaction arrived = (tt, tt)
-
 -- without a life at most a request or an ACK comes up
-abbrev is_little : Trigger → UpAction → Bool
-is_little trigger up.Nothing = true
-is_little on.Request up.Message = true
-is_little on.Ack up.Message = true
-is_little trigger up.Message = false
-is_little trigger up.Timeout = false
-is_little trigger up.Failed = false
-is_little trigger up.NoTransaction = true
+abbrev is_message_in : Trigger → Bool
+is_message_in on.Request = true
+is_message_in on.Ack = true
+is_message_in trigger = false
+
+abbrev is_little : UpAction → Trigger → Bool
+is_little up.Nothing trigger = true
+is_little up.Message trigger = is_message_in trigger
+is_little up.Timeout trigger = false
+is_little up.Failed trigger = false
+is_little up.NoTransaction trigger = true
 
 abbrev hands_little : Option State → Trigger → Step → Bool
-hands_little state trigger step = is_some state || is_little trigger step.handed
+hands_little state trigger step = is_some state || is_little step.handed trigger
 
 rows_little : (r : Role) → table_passes hands_little (rows_of r) ≡ true
 rows_little role.InviteClient = refl
@@ -517,7 +489,7 @@ rows_little role.InviteServer = refl
 rows_little role.Server = refl
 
 little_kind : (k : Key) (message : Message) (reply_to : Addr) (line : StartLine)
-    (Held : Type 0) → is_little (arrival_of line message.cseq.method) up.Message ≡ true
+    (Held : Type 0) → is_message_in (arrival_of line message.cseq.method) ≡ true
     → KindIsOf (kind_of line message reply_to) Held
 little_kind k message reply_to (start.Request uri) Held little =
     by_ack (is_same_method message.cseq.method (codes "ACK"))
@@ -527,51 +499,23 @@ little_kind k message reply_to (start.Request uri) Held little =
     by_ack true = tt
     by_ack false = tt
 little_kind k message reply_to (start.Response status reason) Held little =
-    absurd (by_class (class_of status) little)
-  where
-    by_class : (c : Class) → is_little (on.Response c) up.Message ≡ true → ⊥
-    by_class class.Trying little = false≢true little
-    by_class class.Provisional little = false≢true little
-    by_class class.Success little = false≢true little
-    by_class class.Failure little = false≢true little
+    absurd (false≢true little)
 
 none_handed : (k : Key) (context : Context) (message : Message) (reply_to : Addr)
     (handed : UpAction)
-    → is_little (arrival_of message.start message.cseq.method) handed ≡ true
+    → is_little handed (arrival_of message.start message.cseq.method) ≡ true
     → AllByRecursion (UpIsOf k None)
     (option_to_list (handed_out k context handed (Some (message, reply_to))))
 unfolding handed_out
 none_handed k context message reply_to up.Nothing little = tt
 none_handed k context message reply_to up.Message little =
     ((refl, little_kind k message reply_to message.start _ little), tt)
-none_handed k context message reply_to up.Timeout little =
-    absurd (late (arrival_of message.start message.cseq.method) little)
-  where
-    late : (t : Trigger) → is_little t up.Timeout ≡ true → ⊥
-    late on.Start little = false≢true little
-    late on.RetransmitDue little = false≢true little
-    late on.TimeoutDue little = false≢true little
-    late on.Failed little = false≢true little
-    late on.Request little = false≢true little
-    late on.Ack little = false≢true little
-    late (on.Response c) little = false≢true little
-    late (on.Answer c) little = false≢true little
-none_handed k context message reply_to up.Failed little =
-    absurd (late (arrival_of message.start message.cseq.method) little)
-  where
-    late : (t : Trigger) → is_little t up.Failed ≡ true → ⊥
-    late on.Start little = false≢true little
-    late on.RetransmitDue little = false≢true little
-    late on.TimeoutDue little = false≢true little
-    late on.Failed little = false≢true little
-    late on.Request little = false≢true little
-    late on.Ack little = false≢true little
-    late (on.Response c) little = false≢true little
-    late (on.Answer c) little = false≢true little
+none_handed k context message reply_to up.Timeout little = absurd (false≢true little)
+none_handed k context message reply_to up.Failed little = absurd (false≢true little)
 none_handed k context message reply_to up.NoTransaction little = (tt, tt)
 
 order_handed : (k : Key) (context : Context) (handed : UpAction)
-    → is_little on.Start handed ≡ true
+    → is_little handed on.Start ≡ true
     → AllByRecursion (UpIsOf k None) (option_to_list (handed_out k context handed None))
 unfolding handed_out
 order_handed k context up.Nothing little = tt
@@ -583,7 +527,7 @@ order_handed k context up.NoTransaction little = (tt, tt)
 none_ups : (k : Key) (now : ℕ) (input : Option Input) (step : Step)
     → RowFor k None (record { moment = now; input = input }) step
     → AllByRecursion (UpIsOf k None) (acted_if k now input None (begun (role_of k) input) step).1
-unfolding begun outputs_of
+unfolding begun
 none_ups k now None step row = tt
 none_ups k now (Some (Answer id message)) step row = tt
 none_ups k now (Some (Failed id)) step row = tt
@@ -593,32 +537,25 @@ none_ups k now (Some (Receive id message reply_to)) step row =
     let context = context_by id message.call_id reply_to None in
     let came : arrival_of message.start message.cseq.method ≡ row.trigger =
     ap (λ o. unwrap_or o on.Ack) row.triggered in
-    both (UpIsOf k None)
-    (option_to_list (handed_out k context step.handed (Some (message, reply_to)))) _
-    (none_handed k context message reply_to step.handed
-    (ap (λ t. is_little t step.handed) came
+    outputs_each (UpIsOf k None) k context (λ bytes. tt) step _ (Some (message, reply_to))
+    (none_handed k context message reply_to step.handed (ap (is_little step.handed) came
     ∙ row_passes hands_little (rows_of r) (rows_little r) None row.trigger step row.row))
-    (ups_sent k None reply_to _)
 none_ups k now (Some (Start id call_id message to)) step row =
     let r = role_of k in
     let context = context_by id call_id to (cond (keeps_request r) (Some message) None) in
     let came : on.Start ≡ row.trigger = ap (λ o. unwrap_or o on.Ack) row.triggered in
-    both (UpIsOf k None) (option_to_list (handed_out k context step.handed None)) _
-    (order_handed k context step.handed
-    (ap (λ t. is_little t step.handed) came
+    outputs_each (UpIsOf k None) k context (λ bytes. tt) step _ None
+    (order_handed k context step.handed (ap (is_little step.handed) came
     ∙ row_passes hands_little (rows_of r) (rows_little r) None row.trigger step row.row))
-    (ups_sent k None to _)
 
 row_ups : (k : Key) (held : Option Life) (now : ℕ) (input : Option Input) (step : Step)
     → RowFor k held (record { moment = now; input = input }) step
     → AllByRecursion (UpIsOf k held) (acted_if k now input (state_of held)
     (context_of (role_of k) held input) step).1
-unfolding outputs_of
 row_ups k None now input step row = none_ups k now input step row
 row_ups k (Some life) now input step row =
-    both (UpIsOf k (Some life))
-    (option_to_list (handed_out k life.context step.handed (arrived_in input))) _
-    (held_handed k life step.handed (arrived_in input)) (ups_sent k (Some life) life.context.to _)
+    ups_each (UpIsOf k (Some life)) k life.context (λ bytes. tt)
+    (λ its. (refl, any_kind its _ (life, refl, refl))) (λ place why. tt) step _ (arrived_in input)
 
 pub ups_of : (k : Key) (held : Option Life) (now : ℕ) (input : Option Input)
     → AllByRecursion (UpIsOf k held) (step_at k held now input).1

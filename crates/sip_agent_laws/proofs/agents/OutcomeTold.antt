@@ -53,10 +53,10 @@ use Rattle.sip_agent_laws.proofs.agents.Lists.{Among, among_left, among_right}
 use Rattle.sip_agent_laws.proofs.agents.OneOutcome.{at_most_one_is_told, brings, brought, brought_once}
 use Rattle.sip_agent_laws.proofs.agents.OneUp.{count_first, left}
 use Rattle.sip_agent_laws.proofs.agents.OpenLives.{is_server}
-use Rattle.sip_agent_laws.proofs.agents.SecondPhase.{orders}
 use Rattle.sip_agent_laws.proofs.calls.OneTold.{brings_outcome}
 use Rattle.sip_agent_laws.proofs.transactions.Inputs.{HeldIn}
 use Rattle.sip_agent_laws.proofs.transactions.Timed.{IsTimed, is_timed, reached}
+use Rattle.sip_agent_laws.proofs.agents.Commands.{orders}
 
 -- ---- lists
 

@@ -1,24 +1,34 @@
--- After rounds without events each call is at rest, and then each transaction.
-use Rattle.std.proofs.Common.{◌≡◌, inl, inr, ℕ, suc, ◌+◌, ◌*◌, ◌≤◌, Bool, true, false, ◌||◌, List, [], ◌∷◌, ◌++◌, length, refl, sym, ap, ◌∙◌, append-nil, append_assoc, subst}
-use Rattle.std.specs.Prelude.{Option, None, Some, is_none, nat_le, ◌&&◌}
+-- After rounds without events each call is at rest, and so is each transaction.
+use Rattle.std.proofs.Common.{◌≡◌, ◌⊎◌, inl, inr, ⊎_elim, ℕ, suc, ◌+◌, ◌*◌, ◌≤◌, Bool, true, false, ◌||◌, List, [], ◌∷◌, ◌++◌, length, refl, sym, ap, ◌∙◌, append-nil, append_assoc, subst}
+use Rattle.std.specs.Prelude.{Option, None, Some, is_none, nat_le}
 use Rattle.std.specs.List.{AllByRecursion, list_any}
-use Rattle.std.proofs.lemmas.Bool.{false≢true}
+use Rattle.std.proofs.lemmas.Bool.{false≢true, leb-true}
 use Rattle.std.proofs.lemmas.Grind.{flat_map-append}
 use Rattle.sip_message.specs.Key.{key_cmp}
+use Rattle.sip_message.specs.declared.id.Id.{Id}
 use Rattle.sip_message.specs.declared.key.Key.{Key}
-use Rattle.sip_timers.specs.declared.estimate.TheConstants.{T1}
+use Rattle.sip_message.specs.declared.message.Message.{Message}
+use Rattle.sip_timers.specs.declared.estimate.TheConstants.{LIFETIME, T1}
 use Rattle.keyed_machine.specs.declared.item.Item as model
-use Rattle.keyed_machine.specs.Machine.{Timed, due_of, state_after, tick_at}
-use Rattle.keyed_machine.specs.Phase.{Phase, history, inputs_of, own_inputs, timed_items}
+use Rattle.keyed_machine.specs.Machine.{Timed, due_of, next, state_after, tick_at}
+use Rattle.keyed_machine.specs.Phase.{Phase, history, inputs_of, own_inputs, states_then, timed_items}
 use Rattle.keyed_machine.proofs.Ordered.{by_bool}
-use Rattle.sip_transactions.proofs.Rules.{at_steps}
+use Rattle.sip_transactions.proofs.Rules.{at_steps, step_is}
+use Rattle.sip_transactions.specs.declared.input.Command.TheVariants as order
 use Rattle.sip_transactions.specs.declared.input.Input.{Input}
+use Rattle.sip_transactions.specs.declared.input.Input.TheVariants.{Answer}
 use Rattle.sip_transactions.specs.declared.life.Life.{Life}
+use Rattle.sip_transactions.specs.declared.output.Out.{Out}
 use Rattle.sip_transactions.specs.Machine.{life_due, transaction_machine}
+use Rattle.sip_transactions.specs.Rules.Step.{step_at}
 use Rattle.sip_transactions.specs.Steps.Input.{role_of}
-use Rattle.sip_agent_laws.specs.Transactions.Timers.{GoneUnlessWaiting, WaitsWithoutTimers, has_tick_from, is_gone_or_waits, waits}
-use Rattle.sip_agent_laws.proofs.transactions.Ticks as gone
+use Rattle.sip_transactions.specs.Steps.Life.{stepped}
+use Rattle.sip_agent_laws.specs.Transactions.Timers.{WaitsWithoutTimers, is_gone_or_waits, waits}
+use Rattle.sip_agent_laws.proofs.transactions.Inputs.{HeldIn}
+use Rattle.sip_agent_laws.proofs.transactions.Ticks as ticks
+use Rattle.sip_agent_laws.proofs.transactions.Ticks.{Ends, Waiting, ends_after, ends_on, ends_or_waits, ticks_come, waits_on}
 use Rattle.sip_agent_laws.proofs.transactions.Timed as timed_laws
+use Rattle.sip_user.specs.declared.item.CallOut.{CallOut}
 use Rattle.sip_calls.specs.declared.call.Call.{Call}
 use Rattle.sip_calls.specs.Call.{CallItem, call_due}
 use Rattle.sip_calls.specs.CallShard.{call_cmp}
@@ -30,15 +40,20 @@ use Rattle.sip_round.specs.declared.round.Round.{Round}
 use Rattle.sip_round.specs.Answers.{Past, calls_of, first, no_past, past_after, past_from, past_of, third}
 use Rattle.sip_round.specs.CallsHeld.{call_after}
 use Rattle.sip_round.specs.NextDue.{IsDueAfter}
+use Rattle.sip_round.specs.Outputs.{command_of, joined}
 use Rattle.sip_round.specs.Phases.{command_items, transaction_items}
 use Rattle.sip_round.proofs.Runs.{past_from-append}
-use Rattle.sip_agent_laws.specs.Agents.AtRest.{AreWithoutEvents, EachAgentComesToRest, EachCallComesToRest, IsAgentAtRest, IsQuietSince, reaches}
+use Rattle.sip_agent_laws.specs.Agents.AtRest.{AreWithoutEvents, EachAgentComesToRest, IsAgentAtRest, IsQuietSince, reaches}
 use Rattle.sip_agent_laws.specs.Agents.Open.{life_after}
-use Rattle.sip_agent_laws.proofs.agents.Idle.{all_own, inside_only, no_arrivals, no_orders}
-use Rattle.sip_agent_laws.proofs.agents.Linked.{calls_in, first_items, given, second_items}
-use Rattle.sip_agent_laws.proofs.agents.LinkedRounds.{given_to, own, own_so_far, same_call}
+use Rattle.sip_agent_laws.proofs.agents.Commands.{ordered, run, orders, run_keeps, ordered_keeps}
+use Rattle.sip_agent_laws.proofs.agents.HasTransaction.{HaveTransactions, has_next, none_have, tick_asks, tick_harmless}
+use Rattle.sip_agent_laws.proofs.agents.Idle.{all_own, inside_only, no_arrivals, reports_silent}
+use Rattle.sip_agent_laws.proofs.agents.Linked.{after_is, calls_in, first_items, given, given_is, lives_between, lives_in, lives_ticked, second_items, second_ticks}
+use Rattle.sip_agent_laws.proofs.agents.LinkedRounds.{IsFair, all_fair, behind_now, fair_next, given_to, own, own_so_far, same_call}
 use Rattle.sip_agent_laws.proofs.agents.Lists.{both}
-use Rattle.sip_agent_laws.proofs.agents.SecondPhase.{orders}
+use Rattle.sip_agent_laws.proofs.agents.SecondPhase.{among_orders}
+use Rattle.sip_agent_laws.proofs.agents.ServedFrom.{IsEarly}
+use Rattle.sip_agent_laws.proofs.agents.ServerLives.{Shuts, ends_answered, shut_on, waits_answered}
 
 -- ---- lists
 
@@ -241,87 +256,152 @@ module _ (config : Config) where
       ))
       (all_own key_cmp P _ key (all_at (λ n. n ≤ moment) round.moment low _)))
 
-  lives_by_from : (moment : ℕ) (rounds : List Round) (number : ℕ) (past : Past)
-      → AllByRecursion (λ (round : Round). round.moment ≤ moment) rounds → LivesBy moment past
-      → LivesBy moment (past_from config number past rounds)
-  lives_by_from moment [] number past low by = by
-  lives_by_from moment (round ∷ rounds) number past low by =
-      lives_by_from moment rounds (suc number) (past_after config number past round) low.1
+  -- ---- rounds without events
+
+  module _ (number : ℕ) (past : Past) (round : Round) (none : round.events ≡ [])
+      (has : HaveTransactions config past) (key : Key) where
+    abbrev now : ℕ
+    now = round.moment
+
+    abbrev ticks_out : List CallOut
+    ticks_out = joined (second_ticks config number past round)
+
+    abbrev ticked : Option Life
+    ticked = next transaction_machine key (lives_in past key) (tick_at now)
+
+    only_ticked : lives_between config number past round key ≡ ticked
+    only_ticked =
+        ap (λ arrivals. states_then key_cmp transaction_machine
+        (lives_ticked config number past round)
+        (timed_items now (transaction_items arrivals)) key)
+        (no_arrivals config number past round none)
+
+    only_asked : orders (given config number past round) ≡ orders ticks_out
+    only_asked =
+        ap orders (given_is config number past round key)
+        ∙ (flat_map-append command_of ticks_out _
+        ∙ (ap (λ more. orders ticks_out ++ more)
+        (reports_silent config number past round none key)
+        ∙ append-nil (orders ticks_out)))
+
+    -- What a tick leaves and the responses that are sent again leave is true after the round. Each
+    -- of these is provisional, or goes to a transaction with a 2xx.
+    round_leaves : (P : Option Life → Type 0)
+        → ((held : Option Life) (own : Id) (message : Message)
+        → IsEarly message ⊎ ((end : ℕ) × Shuts key end held) → P held
+        → P (step_at key held now (Some (Answer own message))).0)
+        → P ticked → P (lives_in (past_after config number past round) key)
+    round_leaves P answered holds =
+        let Kept : Option Life → Type 0 = λ held. P held
+        × ((end : ℕ) → Shuts key end (lives_between config number past round key)
+        → Shuts key end held) in
+        subst P (sym (after_is config number past round key
+        ∙ (ap (run key now (lives_between config number past round key)) only_asked
+        ∙ ap (λ life. run key now life (orders ticks_out)) only_ticked)))
+        (run_keeps key now Kept (orders ticks_out)
+        (λ held own c among kept.
+        let there = among_orders ticks_out own c among in
+        let asks = tick_asks config number past round has own c there in
+        let harmless = tick_harmless config number past round has key own c there in
+        subst (λ d. Kept (ordered key now held (own, d))) (sym asks.4)
+        (ordered_keeps key now Kept held own (order.Answer asks.1.key asks.3) (λ same. (
+          answered held own asks.3 (⊎_elim (λ early. inl early)
+              (λ shut. inr (shut.0, kept.1 shut.0 shut.1))
+              (harmless.1 asks.3 (asks.4 ∙ ap (λ q. order.Answer q asks.3) same))) kept.0,
+          λ end shuts. shut_on key end held now (Some (Answer own asks.3)) tt (kept.1 end shuts),
+        )) kept))
+        ticked (holds, λ end shuts. subst (Shuts key end) only_ticked shuts)).0
+
+  abbrev AllEnd : ℕ → Past → Type 0
+  AllEnd bound past = (key : Key) → HeldIn (Ends (role_of key) bound) (lives_in past key)
+
+  abbrev AllWait : Past → Type 0
+  AllWait past = (key : Key) → HeldIn (Waiting (role_of key)) (lives_in past key)
+
+  module _ (number : ℕ) (past : Past) (round : Round) (none : round.events ≡ [])
+      (has : HaveTransactions config past) where
+    stepped_so : (P : Option Life → Type 0) (key : Key)
+        → P (stepped key (lives_in past key) (tick_at round.moment)).0
+        → P (next transaction_machine key (lives_in past key) (tick_at round.moment))
+    stepped_so P key holds =
+        subst (λ (after : Option Life × List Out). P after.0)
+        (sym (step_is key (lives_in past key) round.moment None)) holds
+
+    ends_round : (moment : ℕ) → AllEnd (moment + LIFETIME) past
+        → AllEnd (moment + LIFETIME) (past_after config number past round)
+    ends_round moment ends key =
+        round_leaves number past round none has key
+        (HeldIn (Ends (role_of key) (moment + LIFETIME)))
+        (λ held own message sent. ends_answered key (moment + LIFETIME) held round.moment own message
+        sent)
+        (stepped_so (HeldIn (Ends (role_of key) (moment + LIFETIME))) key
+        (ends_on key moment (lives_in past key) (tick_at round.moment)
+        (ticks_come moment (tick_at round.moment) refl) (ends key)))
+
+    waits_round : ((key : Key) → HeldIn (Waiting (role_of key))
+        (stepped key (lives_in past key) (tick_at round.moment)).0)
+        → AllWait (past_after config number past round)
+    waits_round waiting key =
+        round_leaves number past round none has key (HeldIn (Waiting (role_of key)))
+        (λ held own message sent. waits_answered key held round.moment own message sent)
+        (stepped_so (HeldIn (Waiting (role_of key))) key (waiting key))
+
+  idle_waits : (rounds : List Round) (number : ℕ) (past : Past) (said : List (Id × Key))
+      (came : List Id) → IsFair config number past rounds said came → AreWithoutEvents rounds
+      → HaveTransactions config past → AllWait past
+      → AllWait (past_from config number past rounds)
+  idle_waits [] number past said came fair none has waiting = waiting
+  idle_waits (round ∷ rounds) number past said came fair none has waiting =
+      idle_waits rounds (suc number) (past_after config number past round) _ _
+      (fair_next config number past round rounds said came fair) none.1
+      (has_next config number past round has
+      (behind_now config number past round rounds said came fair))
+      (waits_round number past round none.0 has
+      (λ key. waits_on key (lives_in past key) round.moment (waiting key)))
+
+  idle_ends : (moment : ℕ) (rounds : List Round) (number : ℕ) (past : Past)
+      (said : List (Id × Key)) (came : List Id) → IsFair config number past rounds said came
+      → AreWithoutEvents rounds → reaches (moment + 64 * T1) rounds
+      → HaveTransactions config past → AllEnd (moment + LIFETIME) past
+      → AllWait (past_from config number past rounds)
+  idle_ends moment [] number past said came fair none late has ends = absurd (false≢true late)
+  idle_ends moment (round ∷ rounds) number past said came fair none late has ends =
+      let then = past_after config number past round in
+      let fair_then = fair_next config number past round rounds said came fair in
+      let has_then = has_next config number past round has
+      (behind_now config number past round rounds said came fair) in
+      by_bool (nat_le (moment + 64 * T1) round.moment)
+      (λ now. idle_waits rounds (suc number) then _ _ fair_then none.1 has_then
+      (waits_round number past round none.0 has
+      (λ key. ends_or_waits key (moment + LIFETIME) (lives_in past key) round.moment (ends key)
+      (leb-true (moment + LIFETIME) round.moment now))))
+      (λ later. idle_ends moment rounds (suc number) then _ _ fair_then none.1
+      (sym (ap (λ b. b || list_any (λ (r : Round). nat_le (moment + 64 * T1) r.moment) rounds)
+      later) ∙ late)
+      has_then (ends_round number past round none.0 has moment ends))
+
+  all_end : (moment : ℕ) (past : Past) → LivesBy moment past → AllEnd (moment + LIFETIME) past
+  all_end moment past by key =
+      at_steps (λ machine. HeldIn (Ends (role_of key) (moment + LIFETIME))
+      (state_after machine key (lives_given past key)))
+      (ends_after key moment (lives_given past key)
+      (all_goes (λ timed low other. low) (lives_given past key) (by key)))
+
+  all_wait : (moment : ℕ) (idle : List Round) → AreWithoutEvents idle
+      → reaches (moment + 64 * T1) idle → (rounds : List Round) (number : ℕ) (past : Past)
+      (said : List (Id × Key)) (came : List Id)
+      → IsFair config number past (rounds ++ idle) said came
+      → AllByRecursion (λ (round : Round). round.moment ≤ moment) rounds
+      → HaveTransactions config past → LivesBy moment past
+      → AllWait (past_from config number past (rounds ++ idle))
+  all_wait moment idle none late [] number past said came fair low has by =
+      idle_ends moment idle number past said came fair none late has (all_end moment past by)
+  all_wait moment idle none late (round ∷ rounds) number past said came fair low has by =
+      all_wait moment idle none late rounds (suc number) (past_after config number past round) _ _
+      (fair_next config number past round (rounds ++ idle) said came fair) low.1
+      (has_next config number past round has
+      (behind_now config number past round (rounds ++ idle) said came fair))
       (lives_by_next moment number past round low.0 by)
-
-  -- since a past a transaction was only given ticks
-  record HasTicks (base past : Past) (key : Key) : Type 0 where
-    ticks : List (Timed Input)
-    is : lives_given past key ≡ lives_given base key ++ ticks
-    none : AllByRecursion (λ (timed : Timed Input). timed.input ≡ None) ticks
-
-  ticks_next : (base : Past) (number : ℕ) (past : Past) (round : Round) → round.events ≡ []
-      → ((q : List ℕ) → IsAtRest (calls_in config past q)) → (key : Key)
-      → HasTicks base past key → HasTicks base (past_after config number past round) key
-  ticks_next base number past round none rest key so_far =
-      let tick : Timed Input = tick_at round.moment in record {
-        ticks = so_far.ticks ++ tick ∷ [];
-        is = lives_longer number past round key
-            ∙ ((λ i. (lives_given past key ++ tick ∷ inputs_of key_cmp (timed_items round.moment
-            (transaction_items (no_arrivals config number past round none i))) key)
-            ++ inputs_of key_cmp (timed_items round.moment (command_items 0
-            (no_orders config number past round key none rest i))) key)
-            ∙ (append-nil (lives_given past key ++ tick ∷ [])
-            ∙ (ap (λ inputs. inputs ++ tick ∷ []) so_far.is
-            ∙ append_assoc (lives_given base key) so_far.ticks (tick ∷ []))));
-        none = both (λ (timed : Timed Input). timed.input ≡ None) so_far.ticks (tick ∷ [])
-            so_far.none (refl, tt);
-      }
-
-  -- the ticks that are added in these rounds
-  record Reaches (base : Past) (late : ℕ) (past : Past) (key : Key) : Type 0 where
-    has : HasTicks base past key
-    ticked : has_tick_from late has.ticks ≡ true
-
-  keeps_reach : (late first_moment : ℕ) (base : Past) (rounds : List Round) (number : ℕ)
-      (past : Past) → AreWithoutEvents rounds
-      → ((q : List ℕ) → IsReached first_moment past q)
-      → (key : Key) → Reaches base late past key
-      → Reaches base late (past_from config number past rounds) key
-  unfolding ticks_next
-  keeps_reach late first_moment base [] number past none reached key reach = reach
-  keeps_reach late first_moment base (round ∷ rounds) number past none reached key reach =
-      let next = past_after config number past round in
-      let rest : (q : List ℕ) → IsAtRest (calls_in config past q) =
-      λ q. reached_rests first_moment past q (reached q) in
-      keeps_reach late first_moment base rounds (suc number) next none.1
-      (λ q. reached_next first_moment number past round none.0 q (reached q)) key
-      (record {
-        has = ticks_next base number past round none.0 rest key reach.has;
-        ticked = any_left (λ (timed : Timed Input). is_none timed.input && nat_le late
-            timed.moment) reach.has.ticks (tick_at round.moment ∷ []) reach.ticked;
-      })
-
-  ticks_from : (late first_moment : ℕ) (base : Past) (rounds : List Round) (number : ℕ)
-      (past : Past) → AreWithoutEvents rounds
-      → ((q : List ℕ) → IsReached first_moment past q)
-      → (key : Key) → HasTicks base past key → reaches late rounds
-      → Reaches base late (past_from config number past rounds) key
-  unfolding ticks_next
-  ticks_from late first_moment base [] number past none reached key has reach =
-      absurd (false≢true reach)
-  ticks_from late first_moment base (round ∷ rounds) number past none reached key has reach =
-      let next = past_after config number past round in
-      let rest : (q : List ℕ) → IsAtRest (calls_in config past q) =
-      λ q. reached_rests first_moment past q (reached q) in
-      let more = ticks_next base number past round none.0 rest key has in
-      let then : (q : List ℕ) → IsReached first_moment next q =
-      λ q. reached_next first_moment number past round none.0 q (reached q) in
-      by_bool (nat_le late round.moment)
-      (λ now. keeps_reach late first_moment base rounds (suc number) next none.1 then key
-      (record {
-        has = more;
-        ticked = any_right (λ (timed : Timed Input). is_none timed.input && nat_le late
-            timed.moment) has.ticks (tick_at round.moment ∷ [])
-            (ap (λ b. b || false) now);
-      }))
-      (λ later. ticks_from late first_moment base rounds (suc number) next none.1 then key more
-      (sym (ap (λ b. b || list_any (λ (r : Round). nat_le late r.moment) rounds) later) ∙ reach))
 
   -- ---- whole runs
 
@@ -342,69 +422,24 @@ module _ (config : Config) where
       (idle_first moment (past_from config config.first no_past rounds)
       (calls_by_from moment rounds config.first no_past quiet.by (calls_none moment))) q)
 
-  all_ticked : (first_moment second_moment : ℕ) (rounds idle later : List Round)
-      → IsQuietSince first_moment rounds idle → IsQuietSince second_moment (rounds ++ idle) later
-      → (key : Key) → Reaches (past_of config (rounds ++ idle)) (second_moment + 64 * T1)
-      (past_of config ((rounds ++ idle) ++ later)) key
+module _ (config : Config) (moment : ℕ) (rounds idle : List Round)
+    (quiet : IsQuietSince moment rounds idle) where
+  abbrev all : List Round
+  all = rounds ++ idle
+
+  gone_or_waits : (key : Key) → is_gone_or_waits (role_of key) (life_after config all key) ≡ true
   unfolding past_of
-  all_ticked first_moment second_moment rounds idle later one two key =
-      subst (λ past. Reaches (past_of config (rounds ++ idle)) (second_moment + 64 * T1) past key)
-      (sym (past_from-append config config.first no_past (rounds ++ idle) later))
-      (ticks_from (second_moment + 64 * T1) first_moment (past_of config (rounds ++ idle)) later
-      (config.first + length (rounds ++ idle)) (past_of config (rounds ++ idle)) two.none
-      (all_reached first_moment rounds idle one) key
-      (record {
-        ticks = [];
-        is = sym (append-nil (lives_given (past_of config (rounds ++ idle)) key));
-        none = tt;
-      }) two.reached)
-
-  all_by : (moment : ℕ) (rounds : List Round)
-      → AllByRecursion (λ (round : Round). round.moment ≤ moment) rounds
-      → LivesBy moment (past_of config rounds)
-  unfolding past_of
-  all_by moment rounds low =
-      lives_by_from moment rounds config.first no_past low (lives_none moment)
-
-pub each_call_comes_to_rest : EachCallComesToRest
-each_call_comes_to_rest config moment rounds idle quiet call_id =
-    reached_rests config moment (past_of config (rounds ++ idle)) call_id
-    (all_reached config moment rounds idle quiet call_id)
-
--- the calls stay at rest
-quiet_longer : (moment : ℕ) (rounds idle later : List Round) → IsQuietSince moment rounds idle
-    → AreWithoutEvents later → IsQuietSince moment rounds (idle ++ later)
-quiet_longer moment rounds idle later quiet none = record {
-  by = quiet.by;
-  none = both (λ (round : Round). round.events ≡ []) idle later quiet.none none;
-  reached = any_left (λ (round : Round). nat_le (moment + 64 * T1) round.moment) idle later
-      quiet.reached;
-}
-
-module _ (config : Config) (first second : ℕ) (rounds idle later : List Round)
-    (one : IsQuietSince first rounds idle) (two : IsQuietSince second (rounds ++ idle) later) where
-  gone_or_waits : (key : Key) → is_gone_or_waits (role_of key)
-      (life_after config ((rounds ++ idle) ++ later) key) ≡ true
   gone_or_waits key =
-      let reach = all_ticked config first second rounds idle later one two key in
-      let base = past_of config (rounds ++ idle) in
-      subst (λ inputs. is_gone_or_waits (role_of key)
-      (state_after transaction_machine key inputs) ≡ true) (sym reach.has.is)
-      (at_steps GoneUnlessWaiting gone.gone_unless_waiting key second
-      (lives_given config base key) reach.has.ticks
-      (all_goes (λ timed low none. low) (lives_given config base key)
-      (all_by config second (rounds ++ idle) two.by key)) reach.has.none reach.ticked)
+      ticks.gone_or_waits (role_of key) (life_after config all key)
+      (all_wait config moment idle quiet.none quiet.reached rounds config.first no_past [] []
+      (all_fair config all) quiet.by (none_have config) (lives_none config moment) key)
 
-  rests : (call_id : List ℕ)
-      → IsAtRest (call_after config ((rounds ++ idle) ++ later) call_id)
+  rests : (call_id : List ℕ) → IsAtRest (call_after config all call_id)
   rests call_id =
-      subst (λ all. IsAtRest (call_after config all call_id))
-      (sym (append_assoc rounds idle later))
-      (each_call_comes_to_rest config first rounds (idle ++ later)
-      (quiet_longer first rounds idle later one two.none) call_id)
+      reached_rests config moment (past_of config all) call_id
+      (all_reached config moment rounds idle quiet call_id)
 
-  none_due : (held : Option Life) (key : Key) (at : ℕ)
-      → life_after config ((rounds ++ idle) ++ later) key ≡ held
+  none_due : (held : Option Life) (key : Key) (at : ℕ) → life_after config all key ≡ held
       → is_gone_or_waits (role_of key) held ≡ true → due_of life_due held ≡ Some at → ⊥
   none_due None key at is gone due = none_some at due
     where
@@ -413,7 +448,7 @@ module _ (config : Config) (first second : ℕ) (rounds idle later : List Round)
   none_due (Some life) key at is waiting due =
       let quiet : is_none (life_due life) ≡ waits (role_of key) life.state =
       at_steps WaitsWithoutTimers timed_laws.waits_without_timers key
-      (lives_given config (past_of config ((rounds ++ idle) ++ later)) key) life is in
+      (lives_given config (past_of config all) key) life is in
       false≢true (sym (ap is_none due) ∙ (quiet ∙ waiting))
 
   call_due_none : (held : Option Call) (at : ℕ) → IsAtRest held
@@ -425,16 +460,14 @@ module _ (config : Config) (first second : ℕ) (rounds idle later : List Round)
   call_due_none (Some call) at rest due =
       false≢true (sym (ap is_none due) ∙ ap is_none rest.due)
 
-  nothing_due : (at : ℕ) → IsDueAfter config ((rounds ++ idle) ++ later) at → ⊥
+  nothing_due : (at : ℕ) → IsDueAfter config all at → ⊥
   nothing_due at (inl (key, due)) =
-      none_due (life_after config ((rounds ++ idle) ++ later) key) key at refl
-      (gone_or_waits key) due
+      none_due (life_after config all key) key at refl (gone_or_waits key) due
   nothing_due at (inr (call_id, due)) =
-      call_due_none (call_after config ((rounds ++ idle) ++ later) call_id) at (rests call_id) due
+      call_due_none (call_after config all call_id) at (rests call_id) due
 
-  pub at_rest : IsAgentAtRest config ((rounds ++ idle) ++ later)
+  pub at_rest : IsAgentAtRest config all
   at_rest = record { transactions = gone_or_waits; calls = rests; due = nothing_due }
 
 pub each_agent_comes_to_rest : EachAgentComesToRest
-each_agent_comes_to_rest config first second rounds idle later one two =
-    at_rest config first second rounds idle later one two
+each_agent_comes_to_rest config moment rounds idle quiet = at_rest config moment rounds idle quiet

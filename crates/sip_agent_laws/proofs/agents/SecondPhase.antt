@@ -1,6 +1,6 @@
 -- The second phase of a round: each call takes its items, and its commands go to the transactions.
 -- What has no final response stays held meanwhile.
-use Rattle.std.proofs.Common.{◌≡◌, ◌⊎◌, inl, inr, ⊎_elim, ℕ, ◌≤◌, true, false, cond, List, [], ◌∷◌, ◌++◌, refl, sym, ap, ◌∙◌, append-nil, append_assoc, subst, arith}
+use Rattle.std.proofs.Common.{◌≡◌, ◌⊎◌, inl, inr, ⊎_elim, ℕ, ◌≤◌, true, false, cond, List, [], ◌∷◌, ◌++◌, map, refl, sym, ap, ◌∙◌, append-nil, append_assoc, subst, arith}
 use Rattle.std.specs.Prelude.{Option, Some}
 use Rattle.std.specs.BTreeMap.{is_at}
 use Rattle.std.specs.List.{AllByRecursion, flat_map}
@@ -10,23 +10,19 @@ use Rattle.std.proofs.lemmas.Grind.{common_steps, flat_map-append}
 use Rattle.std.proofs.lemmas.List.{map-append}
 use Rattle.std.proofs.lemmas.List.Elements.{filter_map-append}
 use Rattle.std.proofs.lemmas.Map.Lookups.{exact_bytes}
-use Rattle.sip_message.specs.declared.addr.Addr.{Addr}
 use Rattle.sip_message.specs.declared.id.Id.{Id}
 use Rattle.sip_message.specs.declared.key.Key.{Key}
-use Rattle.sip_message.specs.declared.message.Message.{Message}
 use Rattle.keyed_machine.specs.declared.item.Item.{Item}
 use Rattle.keyed_machine.specs.Machine.{Machine, Timed, adds, next}
 use Rattle.keyed_machine.specs.Phase.{states_then, stepped, told_items}
 use Rattle.keyed_machine.proofs.Ordered.{by_bool, exact_at, is_at_itself}
+use Rattle.sip_transactions.specs.Ids.{IdsRise}
 use Rattle.sip_transactions.specs.declared.input.Command.{Command}
 use Rattle.sip_transactions.specs.declared.input.Command.TheVariants as order
 use Rattle.sip_transactions.specs.declared.life.Life.{Life}
-use Rattle.sip_transactions.specs.declared.output.Up.{Up as AnUp}
-use Rattle.sip_transactions.specs.declared.output.UpKind.TheVariants as kind
 use Rattle.sip_transactions.specs.Steps.Input.{role_of}
 use Rattle.sip_user.specs.declared.item.CallOut.{CallOut}
 use Rattle.sip_user.specs.declared.item.CallOut.TheVariants as out
-use Rattle.sip_user.specs.declared.item.Item.TheVariants.{Up}
 use Rattle.sip_held_dialogs.specs.Ids.{is_id}
 use Rattle.sip_held_dialogs.proofs.Starts.{start_in, starts}
 use Rattle.sip_calls.specs.declared.call.Call.{Call}
@@ -41,14 +37,15 @@ use Rattle.sip_calls.proofs.OwnCall.{each_notice_is_own}
 use Rattle.sip_round.specs.Outputs.{command_of}
 use Rattle.sip_round.proofs.StartedOnce.{counted, counted_one, how_many-append}
 use Rattle.sip_agent_laws.specs.Agents.Open.{is_open}
-use Rattle.sip_agent_laws.proofs.agents.CallHeld.{GoesHeld, InputIsHarmless, StaysHeld, step_goes, step_stays, step_takes}
+use Rattle.sip_agent_laws.proofs.agents.CallHeld.{GoesHeld, InputIsHarmless, step_goes}
+use Rattle.sip_agent_laws.proofs.agents.CallServes.{came_with, step_stays, step_takes}
 use Rattle.sip_agent_laws.proofs.agents.ClientsHeld as client_side
 use Rattle.sip_agent_laws.proofs.agents.ClientsHeld.{Abandons, Begins, IsUnder, NoneUnder}
-use Rattle.sip_agent_laws.proofs.agents.Commands.{IsAbandonOf, IsFinalFor, IsNew, IsStartOf, run, run_append, run_on}
-use Rattle.sip_agent_laws.proofs.agents.Lists.{Among, among_flat, among_left, among_right, each_of, flat_among}
+use Rattle.sip_agent_laws.proofs.agents.Commands.{IsAbandonOf, IsFinalFor, IsNew, IsStartOf, ordered_among, orders, run, run_append, run_on}
+use Rattle.sip_agent_laws.proofs.agents.Lists.{Among, among_left, among_right, each_of, flat_among}
 use Rattle.sip_agent_laws.proofs.agents.OpenLives.{is_server}
 use Rattle.sip_agent_laws.proofs.agents.ServedHeld as server_side
-use Rattle.sip_agent_laws.proofs.agents.ServedHeld.{AreApart, Says}
+use Rattle.sip_agent_laws.proofs.agents.ServedHeld.{Says}
 
 abbrev pub CallStates : Type 0
 CallStates = List ℕ → Option Call
@@ -56,15 +53,7 @@ CallStates = List ℕ → Option Call
 abbrev pub CallItems : Type 0
 CallItems = List (Item (List ℕ) (Timed CallItem))
 
--- the commands for transactions among outputs
-abbrev pub orders : List CallOut → List (Id × Command)
-orders outs = flat_map command_of outs
-
 -- ---- commands among outputs
-
-ordered_among : (outs : List CallOut) (id : Id) (c : Command) → Among outs (out.Command id c)
-    → Among (orders outs) (id, c)
-ordered_among outs id c among = among_flat command_of outs (out.Command id c) (id, c) among (inl refl)
 
 one_order : (o : CallOut) (id : Id) (c : Command) → Among (command_of o) (id, c)
     → o ≡ out.Command id c
@@ -237,14 +226,7 @@ module _ (calls : Calls) (k : Key) (now : ℕ) where
   pub record Brings (id : Id) (call_id : List ℕ) (item : Item (List ℕ) (Timed CallItem))
       : Type 0 where
     pub to : item.key ≡ call_id
-    pub event : Id
-    pub up : AnUp
-    pub message : Message
-    pub reply_to : Addr
-    pub is : item.input.input ≡ Some (event, Up up)
-    pub key_is : up.key ≡ k
-    pub id_is : up.id ≡ id
-    pub kind_is : up.kind ≡ kind.Request message reply_to
+    pub is : came_with item.input.input ≡ Some (id, k)
 
   -- it is held without a final response, or still comes up
   abbrev pub IsServed : CallStates → CallItems → Id → List ℕ → Type 0
@@ -255,62 +237,42 @@ module _ (calls : Calls) (k : Key) (now : ℕ) where
   ServedLinked held states items = (life : Life) → held ≡ Some life → IsOpen life
       → IsServed states items life.context.id life.context.call_id
 
-  -- in each call that takes an item requests with one id are one
+  -- each call that takes an item holds its requests by rising ids
   abbrev pub AreSound : CallStates → CallItems → Type 0
   AreSound states [] = Unit {0}
-  AreSound states (item ∷ items) = AreApart (requests_held (states item.key))
+  AreSound states (item ∷ items) = IdsRise (map (λ held. held.id) (requests_held (states item.key)))
       × AreSound (after_item states item) items
 
-  stays_served : (states : CallStates) (item : Item (List ℕ) (Timed CallItem)) (id : Id)
-      (call_id : List ℕ) → AreApart (requests_held (states item.key))
-      → (Says k (here states item) → ⊥) → server_side.Holds k id (requests_held (states call_id))
-      → server_side.Holds k id (requests_held (after_item states item call_id))
-  stays_served states item id call_id apart never ours =
-      moved (λ call. server_side.Holds k id (requests_held call)) states item call_id
-      (λ same. ⊎_elim (λ still. still) (λ says. absurd (never says))
-      (step_stays k id calls (states item.key) item.input.input item.input.moment apart
-      (subst (λ c. server_side.Holds k id (requests_held (states c))) (sym same) ours)))
-      ours
-
-  takes_served : (states : CallStates) (item : Item (List ℕ) (Timed CallItem)) (id : Id)
-      (call_id : List ℕ) → AreApart (requests_held (states item.key))
-      → (Says k (here states item) → ⊥) → Brings id call_id item
-      → server_side.Holds k id (requests_held (after_item states item call_id))
-  takes_served states item id call_id apart never brings =
-      let taken : StaysHeld brings.up.key brings.up.id
-      (call_step calls (states item.key) (Some (brings.event, Up brings.up)) item.input.moment) =
-      step_takes calls (states item.key) brings.event item.input.moment brings.up brings.message
-      brings.reply_to apart brings.kind_is in
-      let ours : StaysHeld k id
-      (call_step calls (states item.key) item.input.input item.input.moment) =
-      subst (λ input. StaysHeld k id (call_step calls (states item.key) input item.input.moment))
-      (sym brings.is)
-      (subst (λ (named : Key × Id). StaysHeld named.0 named.1
-      (call_step calls (states item.key) (Some (brings.event, Up brings.up)) item.input.moment))
-      (λ i. (brings.key_is i, brings.id_is i)) taken) in
-      let after : server_side.Holds k id
-      (requests_held (next machine item.key (states item.key) item.input)) =
-      ⊎_elim (λ still. still) (λ says. absurd (never says)) ours in
-      by_bool (is_at (call_cmp item.key) call_id)
-      (λ hit. subst (λ call. server_side.Holds k id (requests_held call))
-      (sym (ap (λ b. cond b (next machine item.key (states item.key) item.input)
-      (states call_id)) hit)) after)
-      (λ miss. absurd (false≢true (sym miss
-      ∙ ap (λ c. is_at (call_cmp c) call_id) brings.to
-      ∙ is_at_itself nat_list_cmp_total call_id)))
-
   link_moves : (states : CallStates) (item : Item (List ℕ) (Timed CallItem)) (items : CallItems)
-      (id : Id) (call_id : List ℕ) → AreApart (requests_held (states item.key))
+      (id : Id) (call_id : List ℕ)
+      → IdsRise (map (λ held. held.id) (requests_held (states item.key)))
       → (Says k (here states item) → ⊥) → IsServed states (item ∷ items) id call_id
       → IsServed (after_item states item) items id call_id
-  link_moves states item items id call_id apart never linked =
+  link_moves states item items id call_id rise never linked =
       ⊎_elim
-      (λ ours. inl (stays_served states item id call_id apart never ours))
+      (λ ours. inl (moved Held states item call_id
+      (λ same. unsaid (step_stays k id calls (states item.key) item.input.input item.input.moment
+      rise (subst (λ c. Held (states c)) (sym same) ours))) ours))
       (λ pending. ⊎_elim
-      (λ same. inl (takes_served states item id call_id apart never
-      (subst (Brings id call_id) (sym same) pending.2)))
+      (λ same. inl (brought (subst (Brings id call_id) (sym same) pending.2)))
       (λ later. inr (pending.0, later, pending.2)) pending.1)
       linked
+    where
+      Held : Option Call → Type 0
+      Held call = server_side.Holds k id (requests_held call)
+
+      unsaid : Held (next machine item.key (states item.key) item.input) ⊎ Says k (here states item)
+          → Held (next machine item.key (states item.key) item.input)
+      unsaid (inl still) = still
+      unsaid (inr says) = absurd (never says)
+
+      brought : Brings id call_id item → Held (after_item states item call_id)
+      brought brings =
+          subst (λ c. Held (after_item states item c)) brings.to
+          (subst Held (sym (ap (λ b. cond b (next machine item.key (states item.key) item.input)
+          (states item.key)) (is_at_itself nat_list_cmp_total item.key)))
+          (unsaid (step_takes k id calls (states item.key) item.input.input item.input.moment rise
+          brings.is)))
 
   pub served_sim : is_server (role_of k) ≡ true → (items : CallItems) (states : CallStates)
       (held : Option Life) → AreSound states items → ServedLinked held states items

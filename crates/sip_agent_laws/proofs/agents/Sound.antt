@@ -1,14 +1,10 @@
--- In each call that takes an item, requests of the peer with one id are one.
-use Rattle.std.proofs.Common.{◌≡◌, inl, inr, ⊎_elim, ℕ, true, false, cond, List, [], ◌∷◌, ◌++◌, map, refl, sym, ap, ◌∙◌, append_assoc, subst}
+-- Each call that takes an item holds the requests of the peer by rising ids.
+use Rattle.std.proofs.Common.{◌≡◌, ℕ, false, cond, List, [], ◌∷◌, ◌++◌, map, refl, sym, ap, ◌∙◌, append_assoc, subst}
 use Rattle.std.specs.Prelude.{Option, None, filter, filter_map}
 use Rattle.std.specs.BTreeMap.{is_at}
-use Rattle.std.specs.Cmp.{IsTotalOrder}
-use Rattle.std.specs.Ordering.{is_eq}
-use Rattle.std.specs.List.{AllByRecursion}
 use Rattle.std.specs.List.Sorted.{IsStrictlySortedBy}
 use Rattle.std.specs.declared.cmp.Ordering.TheVariants.{Less}
-use Rattle.std.proofs.lemmas.Bool.{false≢true}
-use Rattle.std.proofs.lemmas.Cmp.{nat_cmp_total, nat_list_cmp_total, on_total, then_total}
+use Rattle.std.proofs.lemmas.Cmp.{nat_list_cmp_total}
 use Rattle.std.proofs.lemmas.List.Elements.{filter_map-append}
 use Rattle.std.proofs.lemmas.Map.Lookups.{exact_bytes}
 use Rattle.sip_message.specs.declared.id.Id.{Id}
@@ -18,9 +14,6 @@ use Rattle.keyed_machine.specs.Machine.{Timed, next}
 use Rattle.keyed_machine.specs.Phase.{inputs_of}
 use Rattle.keyed_machine.proofs.Ordered.{by_bool, exact_at, is_at_itself}
 use Rattle.sip_transactions.specs.Ids.{IdsRise, id_cmp}
-use Rattle.sip_held_dialogs.specs.Ids.{is_id}
-use Rattle.sip_clients.proofs.FirstInvite.{id_exact}
-use Rattle.sip_served.specs.declared.held_request.HeldRequest.{HeldRequest}
 use Rattle.sip_calls.specs.declared.call.Call.{Call}
 use Rattle.sip_calls.specs.declared.calls.Calls.{Calls}
 use Rattle.sip_calls.specs.Call.{CallItem, call_machine, call_step}
@@ -29,23 +22,10 @@ use Rattle.sip_calls.specs.HeldById.{RequestsRise}
 use Rattle.sip_calls.specs.HeldRequests.{request_brought, requests_held}
 use Rattle.sip_calls.specs.Histories.{call_from}
 use Rattle.sip_calls.proofs.HeldById.{held_by_id}
-use Rattle.sip_agent_laws.proofs.agents.Lists.{Among, front_of}
+use Rattle.sip_agent_laws.proofs.agents.Lists.{front_of}
 use Rattle.sip_agent_laws.proofs.agents.SecondPhase.{AreSound, CallItems, CallStates, after_item}
-use Rattle.sip_agent_laws.proofs.agents.ServedHeld.{AreApart}
 
 -- ---- ids that rise
-
-ids_total : IsTotalOrder id_cmp
-ids_total = then_total (on_total (λ (id : Id). id.round) nat_cmp_total)
-    (on_total (λ (id : Id). id.place) nat_cmp_total)
-
-less_itself : (x : Id) → id_cmp x x ≡ Less → ⊥
-less_itself x less = false≢true (sym (ap is_eq less) ∙ is_at_itself ids_total x)
-
-not_less : (x y : Id) → is_id x y ≡ true → id_cmp x y ≡ Less → ⊥
-not_less x y same less =
-    let here : id_cmp x x ≡ Less = ap (id_cmp x) (id_exact x y same) ∙ less in
-    less_itself x here
 
 front_rises : (xs ys : List Id) → IdsRise (xs ++ ys) → IdsRise xs
 unfolding IsStrictlySortedBy
@@ -60,34 +40,6 @@ first_rise one other rise =
     (filter_map (λ timed. request_brought timed.input) other)
     (subst IdsRise (filter_map-append (λ (timed : Timed CallItem). request_brought timed.input) one
     other) rise)
-
-above : (x : Id) (requests : List HeldRequest) (other : HeldRequest)
-    → AllByRecursion (λ y. id_cmp x y ≡ Less) (map (λ held. held.id) requests)
-    → Among requests other → id_cmp x other.id ≡ Less
-above x [] other all among = absurd among
-above x (held ∷ requests) other all (inl same) =
-    ap (λ (h : HeldRequest). id_cmp x h.id) (sym same) ∙ all.0
-above x (held ∷ requests) other all (inr later) = above x requests other all.1 later
-
-same_back : (x y : Id) → is_id x y ≡ true → is_id y x ≡ true
-same_back x y same =
-    let is = id_exact x y same in ap (λ z. is_id y z) is ∙ (ap (λ z. is_id z y) (sym is) ∙ same)
-
-pub apart_of : (requests : List HeldRequest) → IdsRise (map (λ held. held.id) requests)
-    → AreApart requests
-unfolding IsStrictlySortedBy
-apart_of [] rise = λ one other here there same. absurd here
-apart_of (held ∷ requests) rise = λ one other here there same.
-    ⊎_elim
-    (λ first. ⊎_elim (λ too. sym first ∙ too)
-    (λ later. absurd (not_less held.id other.id
-    (ap (λ (h : HeldRequest). is_id h.id other.id) first ∙ same)
-    (above held.id requests other rise.0 later))) there)
-    (λ after. ⊎_elim
-    (λ first. absurd (not_less held.id one.id
-    (ap (λ (h : HeldRequest). is_id h.id one.id) first ∙ same_back one.id other.id same)
-    (above held.id requests one rise.0 after)))
-    (λ later. apart_of requests rise.1 one other after later same) there) here
 
 -- ---- items of calls
 
@@ -116,15 +68,14 @@ behind_next calls call input more behind = record {
   rise = subst RequestsRise (sym (append_assoc behind.before (input ∷ []) more)) behind.rise;
 }
 
-behind_apart : (calls : Calls) (call : Option Call) (more : List (Timed CallItem))
-    → Behind calls call more → AreApart (requests_held call)
-behind_apart calls call more behind =
-    subst (λ c. AreApart (requests_held c)) behind.is
-    (apart_of (requests_held (call_from calls None behind.before))
-    (held_by_id calls behind.before (first_rise behind.before more behind.rise)))
+pub behind_rise : (calls : Calls) (call : Option Call) (more : List (Timed CallItem))
+    → Behind calls call more → IdsRise (map (λ held. held.id) (requests_held call))
+behind_rise calls call more behind =
+    subst (λ c. IdsRise (map (λ held. held.id) (requests_held c))) behind.is
+    (held_by_id calls behind.before (first_rise behind.before more behind.rise))
 
 module _ (calls : Calls) (k : Key) (now : ℕ) where
-  own_first : (item : Item (List ℕ) (Timed CallItem)) (items : CallItems) (q : List ℕ)
+  pub own_first : (item : Item (List ℕ) (Timed CallItem)) (items : CallItems) (q : List ℕ)
       → item.key ≡ q
       → inputs_of call_cmp (item ∷ items) q ≡ item.input ∷ inputs_of call_cmp items q
   own_first item items q same =
@@ -133,7 +84,7 @@ module _ (calls : Calls) (k : Key) (now : ℕ) where
       (filter (λ i. is_at (call_cmp i.key) q) items)))
       (ap (λ c. is_at (call_cmp c) q) same ∙ is_at_itself nat_list_cmp_total q)
 
-  own_other : (item : Item (List ℕ) (Timed CallItem)) (items : CallItems) (q : List ℕ)
+  pub own_other : (item : Item (List ℕ) (Timed CallItem)) (items : CallItems) (q : List ℕ)
       → is_at (call_cmp item.key) q ≡ false
       → inputs_of call_cmp (item ∷ items) q ≡ inputs_of call_cmp items q
   own_other item items q miss =
@@ -141,7 +92,7 @@ module _ (calls : Calls) (k : Key) (now : ℕ) where
       (cond b (item ∷ filter (λ i. is_at (call_cmp i.key) q) items)
       (filter (λ i. is_at (call_cmp i.key) q) items))) miss
 
-  after_one : (states : CallStates) (item : Item (List ℕ) (Timed CallItem)) (items : CallItems)
+  pub after_one : (states : CallStates) (item : Item (List ℕ) (Timed CallItem)) (items : CallItems)
       → ((q : List ℕ) → Behind calls (states q) (inputs_of call_cmp (item ∷ items) q))
       → (q : List ℕ)
       → Behind calls (after_item calls k now states item q) (inputs_of call_cmp items q)
@@ -167,7 +118,7 @@ module _ (calls : Calls) (k : Key) (now : ℕ) where
       → AreSound calls k now states items
   sound_items [] states each = tt
   sound_items (item ∷ items) states each = (
-    behind_apart calls (states item.key) (inputs_of call_cmp (item ∷ items) item.key)
+    behind_rise calls (states item.key) (inputs_of call_cmp (item ∷ items) item.key)
         (each item.key),
     sound_items items (after_item calls k now states item) (after_one states item items each),
   )

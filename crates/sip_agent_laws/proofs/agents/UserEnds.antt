@@ -68,7 +68,7 @@ use Rattle.sip_agent_laws.proofs.agents.Idle.{IsReport, all_joined, report_insid
 use Rattle.sip_agent_laws.proofs.agents.Linked.{first_ticks, first_told, items_are, lives_in}
 use Rattle.sip_agent_laws.proofs.agents.LinkedRounds.{given_to, same_call}
 use Rattle.sip_agent_laws.proofs.agents.Lists.{by_found, front_of, same_some}
-use Rattle.sip_agent_laws.proofs.agents.NothingLeft.{AreInvites, all_keep, call_on, invites_alone, kept_all, no_transaction_stays, nothing_stays}
+use Rattle.sip_agent_laws.proofs.agents.NothingLeft.{AllAre, AreInvites, call_on, from_keeps, invites_alone, kept_all, no_transaction_stays, nothing_stays, step_keeps}
 use Rattle.sip_agent_laws.proofs.agents.RestFrom.{all_goes, calls_longer}
 use Rattle.sip_agent_laws.proofs.agents.Sound.{one_more}
 use Rattle.sip_agent_laws.proofs.agents.ClientsHeld.{id_itself}
@@ -544,10 +544,11 @@ module _ (config : Config) (rounds : List Round) (round : Round)
       (side_held (call_after config rounds q)).clients) where
     all_given : AreGivenUp commands (side_held (call_from (calls_of config) None before)).clients
     all_given =
+        let Given : Id × Client → Type 0 = λ entry. is_invite_kind entry.1.kind ≡ false
+        → SomeInput (GivesUp entry.0) commands in
         subst (λ (call : Option Call). AreGivenUp commands (side_held call).clients)
         (sym after_reports)
-        (all_keep (λ (entry : Id × Client). is_invite_kind entry.1.kind ≡ false
-        → SomeInput (GivesUp entry.0) commands) (calls_of config)
+        (from_keeps (calls_of config) (AllAre Given) (step_keeps Given (calls_of config))
         (tick_at now ∷ picked now q reported) (call_after config rounds q) inside
         (all_goes (λ entry given other. in_picked now q (GivesUp entry.0) place 1 round.events
         (given other)) (side_held (call_after config rounds q)).clients others))
@@ -563,11 +564,11 @@ module _ (config : Config) (rounds : List Round) (round : Round)
         })
 
 pub user_ends_transactions : UserEndsTransactions
-user_ends_transactions config first second rounds round idle later ends one two =
-    no_transaction_stays config first second (rounds ++ round ∷ []) idle later
-    (λ q. user_done config rounds round ends q) one two
+user_ends_transactions config moment rounds round idle ends quiet =
+    no_transaction_stays config moment (rounds ++ round ∷ []) idle
+    (λ q. user_done config rounds round ends q) quiet
 
 pub user_ends_agent : UserEndsAgent
-user_ends_agent config first second rounds round idle later ends one two =
-    nothing_stays config first second (rounds ++ round ∷ []) idle later
-    (λ q. settled config rounds round ends.waiting q (ends.others q)) one two
+user_ends_agent config moment rounds round idle ends quiet =
+    nothing_stays config moment (rounds ++ round ∷ []) idle
+    (λ q. settled config rounds round ends.waiting q (ends.others q)) quiet

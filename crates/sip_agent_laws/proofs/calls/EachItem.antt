@@ -46,7 +46,8 @@ module _ (P : CallOut → Type 0) where
     pub timeout : (call_id : List ℕ) (id : Id) → P (out.Notice (notice.Timeout call_id id))
     pub failed : (call_id : List ℕ) (id : Id) → P (out.Notice (notice.Failed call_id id))
 
-module _ (P : CallOut → Type 0) (passes : PassesOthers P) where
+module _ (P : CallOut → Type 0) (allows : Allows P)
+    (gives_up : (id : Id) (client : Client) → P (end_command id client)) where
   abbrev AllOf : List CallOut → Type 0
   AllOf outs = AllByRecursion P outs
 
@@ -54,46 +55,48 @@ module _ (P : CallOut → Type 0) (passes : PassesOthers P) where
   pub first_passes : (call : Call) (event : Event) (command : UserCommand)
       → AllOf (first_command_taken call event command).1
   first_passes call event (user.Invite invite) =
-      invite_told P passes.allows event invite call.clients
+      invite_told P allows event invite call.clients
   first_passes call event (user.Plain plain) =
-      plain_told P passes.allows event plain call.clients
+      plain_told P allows event plain call.clients
   first_passes call event (user.Request request) =
-      (passes.allows.refusal request.call_id event.id.place NoSuchCall, tt)
+      (allows.refusal request.call_id event.id.place NoSuchCall, tt)
   first_passes call event (user.Respond respond) =
-      (passes.allows.refusal respond.call_id event.id.place NoSuchCall, tt)
+      (allows.refusal respond.call_id event.id.place NoSuchCall, tt)
   first_passes call event (user.Ack ack) =
-      (passes.allows.refusal ack.call_id event.id.place NoSuchCall, tt)
+      (allows.refusal ack.call_id event.id.place NoSuchCall, tt)
   first_passes call event (user.Prack prack) =
-      (passes.allows.refusal prack.call_id event.id.place NoSuchCall, tt)
+      (allows.refusal prack.call_id event.id.place NoSuchCall, tt)
   first_passes call event (user.Cancel cancel) =
-      (passes.allows.refusal cancel.call_id event.id.place NoSuchCall, tt)
+      (allows.refusal cancel.call_id event.id.place NoSuchCall, tt)
   first_passes call event (user.AbandonRequest abandon) =
-      (passes.allows.refusal abandon.call_id event.id.place NoSuchCall, tt)
+      (allows.refusal abandon.call_id event.id.place NoSuchCall, tt)
   first_passes call event (user.AbandonDialog abandon) =
-      (passes.allows.refusal abandon.call_id event.id.place NoSuchCall, tt)
+      (allows.refusal abandon.call_id event.id.place NoSuchCall, tt)
 
   -- a command while something is held
   pub command_passes : (call : Call) (event : Event) (command : UserCommand)
+      → ((respond : RespondCommand) → command ≡ user.Respond respond
+      → AllOf (respond_taken call.served event.id respond event.moment).1)
       → AllOf (command_taken call event command).1
-  command_passes call event (user.Invite invite) =
-      (passes.allows.refusal invite.call_id event.id.place CallInUse, tt)
-  command_passes call event (user.Plain plain) =
-      (passes.allows.refusal plain.call_id event.id.place CallInUse, tt)
-  command_passes call event (user.Request request) =
-      command_told P passes.allows event request (side_of call)
-  command_passes call event (user.Respond respond) =
-      passes.responds call.served event.id respond event.moment
-  command_passes call event (user.Ack ack) =
-      ack_command_told P passes.allows event ack (side_of call)
-  command_passes call event (user.Prack prack) =
-      prack_command_told P passes.allows event prack (side_of call)
-  command_passes call event (user.Cancel cancel) =
-      cancel_told P passes.allows event cancel (side_of call)
-  command_passes call event (user.AbandonRequest abandon) =
-      abandon_request_told P passes.allows event abandon (side_of call)
-      (passes.gives_up abandon.id)
-  command_passes call event (user.AbandonDialog abandon) =
-      abandon_dialog_told P passes.allows event abandon (side_of call)
+  command_passes call event (user.Invite invite) responds =
+      (allows.refusal invite.call_id event.id.place CallInUse, tt)
+  command_passes call event (user.Plain plain) responds =
+      (allows.refusal plain.call_id event.id.place CallInUse, tt)
+  command_passes call event (user.Request request) responds =
+      command_told P allows event request (side_of call)
+  command_passes call event (user.Respond respond) responds =
+      responds respond refl
+  command_passes call event (user.Ack ack) responds =
+      ack_command_told P allows event ack (side_of call)
+  command_passes call event (user.Prack prack) responds =
+      prack_command_told P allows event prack (side_of call)
+  command_passes call event (user.Cancel cancel) responds =
+      cancel_told P allows event cancel (side_of call)
+  command_passes call event (user.AbandonRequest abandon) responds =
+      abandon_request_told P allows event abandon (side_of call)
+      (gives_up abandon.id)
+  command_passes call event (user.AbandonDialog abandon) responds =
+      abandon_dialog_told P allows event abandon (side_of call)
 
 module _ (P : CallOut → Type 0) (passes : Passes P) where
   abbrev AllPass : List CallOut → Type 0
@@ -130,6 +133,7 @@ module _ (P : CallOut → Type 0) (passes : Passes P) where
   item_passes calls (Some call) id (Up up) now brings =
       up_passes call (event_of calls id now) up up.kind (λ response. brings up response refl)
   item_passes calls None id (User command) now brings =
-      first_passes P others (new_call calls.local) (event_of calls id now) command
+      first_passes P others.allows others.gives_up (new_call calls.local) (event_of calls id now) command
   item_passes calls (Some call) id (User command) now brings =
-      command_passes P others call (event_of calls id now) command
+      command_passes P others.allows others.gives_up call (event_of calls id now) command
+      (λ respond is. others.responds call.served id respond now)

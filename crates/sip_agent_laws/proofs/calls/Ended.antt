@@ -12,6 +12,7 @@ use Rattle.sip_message.specs.declared.id.Id.{Id}
 use Rattle.sip_user.specs.declared.command.AbandonDialog.{AbandonDialog as Dialog}
 use Rattle.sip_user.specs.declared.command.AbandonRequest.{AbandonRequest as Request}
 use Rattle.sip_user.specs.declared.command.Respond.{Respond as Answer}
+use Rattle.sip_user.specs.declared.command.UserCommand.{UserCommand}
 use Rattle.sip_user.specs.declared.command.UserCommand.TheVariants.{AbandonDialog, AbandonRequest, Respond}
 use Rattle.sip_user.specs.declared.item.CallOut.{CallOut}
 use Rattle.sip_user.specs.declared.item.Item.TheVariants.{User}
@@ -47,7 +48,7 @@ use Rattle.sip_calls.specs.Sides.{by_clients, side_of}
 use Rattle.sip_calls.proofs.HeldDialogs.{held_until_it_ends}
 use Rattle.sip_calls.proofs.KeptSides.{kept_side}
 use Rattle.sip_calls.proofs.SameSteps.{same_step}
-use Rattle.sip_agent_laws.specs.Calls.Ending.{DialogGivenUp, EndingEnds, IsEndOf, IsGivenUp, RequestGivenUp, SomeEnds, UserEndsAll, dialog_named}
+use Rattle.sip_agent_laws.specs.Calls.Ending.{DialogGivenUp, Ends, IsEndOf, IsGivenUp, RequestGivenUp, SomeEnds, dialog_named}
 use Rattle.sip_agent_laws.specs.Calls.Rejections.{IsRejection}
 use Rattle.sip_agent_laws.specs.Calls.Waiting.{Waiting, InDialog, NothingWaits, OfPeer, OurInvite, lacks_response, waits}
 use Rattle.sip_agent_laws.proofs.calls.AtRest.{from_both}
@@ -356,7 +357,11 @@ invite_gone calls (Some call) event command now sound =
     ∙ ap (λ (side : Side). client_at command.id side.clients) (kept_side taken.0)
     ∙ abandoned_gone (event_of calls event now) command (side_of call) sound
 
-pub ending_ends : EndingEnds
+-- what a command ends waits no longer, if no id of a request came up twice
+pub ending_ends : (calls : Calls) (inputs : List (Timed CallItem)) → RequestsDiffer inputs
+    → (event : Id) (command : UserCommand) (now : ℕ) (one : Waiting) → Ends one command
+    → waits one (call_step calls (call_from calls None inputs)
+    (Some (event, User command)) now).0 ≡ false
 ending_ends calls inputs differ event (Respond r) now (OfPeer id) ends =
     subst (λ id. waits (OfPeer id) (call_step calls (call_from calls None inputs)
     (Some (event, User (Respond r))) now).0 ≡ false) ends.0
@@ -440,6 +445,11 @@ module _ (calls : Calls) where
       (λ other waiting. left_by inputs differ last each.0.0 each.0.1 commands all other
       (ap (waits other) (sym after) ∙ waiting)) one
 
-pub user_ends_all : UserEndsAll
+-- if no id of a request came up twice, such commands leave nothing that waits
+pub user_ends_all : (calls : Calls) (inputs commands : List (Timed CallItem))
+    → RequestsDiffer inputs
+    → AllByRecursion (λ (timed : Timed CallItem). (one : Waiting) × IsEndOf one timed) commands
+    → ((one : Waiting) → waits one (call_from calls None inputs) ≡ true → SomeEnds one commands)
+    → NothingWaits (call_from calls None (inputs ++ commands))
 user_ends_all calls inputs commands differ each all =
     ends_all calls commands inputs differ each all

@@ -377,10 +377,12 @@ module _ (id : Id) where
       command_counted calls None event c now
       (subst (λ (taken : Taken). AllByRecursion Quiet taken.1)
       (sym (same_step calls None (Some (event, User c)) now))
-      (first_passes Quiet (others.passes_others id true) (new_call calls.local)
-      (event_of calls event now) c))
+      (first_passes Quiet (others.passes_others id true).allows
+      (others.passes_others id true).gives_up (new_call calls.local) (event_of calls event now) c))
   one_told calls (Some call) (Some (event, User c)) now =
       command_counted calls (Some call) event c now
       (subst (λ (taken : Taken). AllByRecursion Quiet taken.1)
       (sym (same_step calls (Some call) (Some (event, User c)) now))
-      (command_passes Quiet (others.passes_others id true) call (event_of calls event now) c))
+      (command_passes Quiet (others.passes_others id true).allows
+      (others.passes_others id true).gives_up call (event_of calls event now) c
+      (λ respond is. (others.passes_others id true).responds call.served event respond now)))

@@ -47,7 +47,7 @@ use Rattle.sip_agent_laws.proofs.transactions.Ends.{Asks, asks, ending-kept, fir
 use Rattle.sip_agent_laws.proofs.transactions.Inputs.{By, HeldIn, after_row, begins, by_each, by_input, moved, next_in, passes, rule}
 use Rattle.sip_agent_laws.proofs.transactions.Told.{Counts, tells, ups-row}
 use Rattle.sip_agent_laws.proofs.transactions.Ticks.{is_end}
-use Rattle.sip_agent_laws.proofs.transactions.Timed.{IsTimed, always_within, can_be, enters, entered_passes, implied, is_timed, reached}
+use Rattle.sip_agent_laws.proofs.transactions.Timed.{always_within, can_be, enters, entered_passes, implied, is_timed, reached}
 
 neither : (a b : Bool) → (a || b) ≡ false → (a ≡ false) × (b ≡ false)
 neither true b e = absurd (false≢true (sym e))
@@ -63,7 +63,7 @@ both_true false b one other = one
 -- ---- what leaves a state
 
 -- a state that time ends
-abbrev lasts : State → Bool
+abbrev pub lasts : State → Bool
 lasts Completed = true
 lasts Accepted = true
 lasts Confirmed = true
@@ -134,20 +134,20 @@ abandon_leaves role state end now (Some input) given = absurd (false≢true give
 -- ---- an input of a state that lasts
 
 -- a fact of the life that is held, and one is
-abbrev HeldAs : (State → Context → Type 0) → Option Life → Type 0
+abbrev pub HeldAs : (State → Context → Type 0) → Option Life → Type 0
 HeldAs P None = ⊥
 HeldAs P (Some life) = P life.state life.context
 
 -- the state, and its end
-record Stands (at : State) (end : ℕ) (state : State) (context : Context) : Type 0 where
-  is : state ≡ at
-  ends : context.timers.ending ≡ Some end
+pub record Stands (at : State) (end : ℕ) (state : State) (context : Context) : Type 0 where
+  pub is : state ≡ at
+  pub ends : context.timers.ending ≡ Some end
 
 -- gone; or an ACK came that was waited for
 abbrev Left : Role → State → State → Context → Type 0
 Left role at state context = (awaits_ack role at && is_confirmed state) ≡ true
 
-abbrev After : Role → State → ℕ → Bool → Option Life → Type 0
+abbrev pub After : Role → State → ℕ → Bool → Option Life → Type 0
 After role at end true held = HeldIn (Left role at) held
 After role at end false held = HeldAs (Stands at end) held
 
@@ -168,7 +168,7 @@ same_next Same state same = refl
 same_next Ended state same = absurd (false≢true same)
 same_next (Become new) state same = absurd (false≢true same)
 
-held_as : (P : State → Context → Type 0) (state : Option State) (context : Context) (step : Step)
+pub held_as : (P : State → Context → Type 0) (state : Option State) (context : Context) (step : Step)
     (now : ℕ) (made : Option (List ℕ)) (next : State) → entered step.next state ≡ Some next
     → P next (moved context step now made) → HeldAs P (life_after state context step now made)
 unfolding life_after
@@ -208,7 +208,7 @@ row_lasts role life end now made trigger lasting ends =
     })))
 
 -- an input leaves it, or it stands
-step_lasts : (key : Key) (life : Life) (timed : Timed Input) (end : ℕ)
+pub step_lasts : (key : Key) (life : Life) (timed : Timed Input) (end : ℕ)
     → (can_be (role_of key) life.state && lasts life.state) ≡ true
     → life.context.timers.ending ≡ Some end
     → After (role_of key) life.state end
@@ -279,7 +279,7 @@ stood key at end lasting (Some life) (timed ∷ inputs) within stands =
 -- ---- the input that leads there
 
 -- for how long, also while an ACK is waited for
-abbrev time_at : Role → State → ℕ
+abbrev pub time_at : Role → State → ℕ
 time_at role state = unwrap_or (closing_time role state) LIFETIME
 
 abbrev becomes : State → Next → Bool
@@ -342,20 +342,20 @@ by_known G key life timed trigger is by =
     (λ given. let none = no_trigger (Some life) timed.moment timed.input given in cc)
     (λ kept. subst (By G key life timed) (sym is) by)
 
-led : (key : Key) (life : Life) (timed : Timed Input) (trigger : Trigger) (closed : State)
-    → IsTimed (role_of key) life.state life.context
+pub led : (key : Key) (life : Life) (timed : Timed Input) (trigger : Trigger) (closed : State)
+    → can_be (role_of key) life.state ≡ true
     → trigger_of (Some life) timed.moment timed.input ≡ Some trigger
     → final_step (role_of key) life.state trigger ≡ Some closed
     → ((can_be (role_of key) closed && lasts closed) ≡ true)
     × HeldAs (Stands closed (timed.moment + time_at (role_of key) closed))
     (stepped key (Some life) timed).0
-led key life timed trigger closed known is leads =
+led key life timed trigger closed possible is leads =
     let role = role_of key in
     let step = rule role life.state trigger in
     let P = Stands closed (timed.moment + time_at role closed) in
     let well : leads_well role closed step ≡ true =
     sym (ap (λ o. option_map_or (λ s. leads_well role s step) o true) leads)
-    ∙ implied (can_be role life.state) _ known.possible
+    ∙ implied (can_be role life.state) _ possible
     (passes closes_well refl role life.state trigger) in
     let goes = and-right (can_be role closed && lasts closed) _ well in (
       and-left (can_be role closed && lasts closed) _ well,
@@ -389,7 +389,7 @@ after_closing key inputs life closed later closes =
     let earlier = closes.earlier in
     let from : Option Life → List (Timed Input) → Option Life = state_from step_machine key in
     let there = led key closes.held given closes.trigger closed
-    (is_timed role _ closes.held (reached key (life.first ∷ earlier)) closes.holds)
+    (is_timed role _ closes.held (reached key (life.first ∷ earlier)) closes.holds).possible
     closes.triggered closes.leads in
     let within : IsWithinLife step_machine key (Some closes.held) (given ∷ later) =
     subst (λ held. IsWithinLife step_machine key held (given ∷ later)) closes.holds

@@ -1,7 +1,7 @@
 -- One input of a transaction, by the row of its trigger.
 use Rattle.std.proofs.Common.{◌≡◌, ℕ, zero, suc, Bool, true, false, ◌&&◌, ◌||◌, List, [], ◌∷◌, refl, sym, ap, subst}
 use Rattle.std.specs.Prelude.{Option, None, Some, is_some, slice_get, option_map, option_and_then, option_to_list, unwrap_or, cond}
-use Rattle.std.specs.List.{list_all}
+use Rattle.std.specs.List.{list_all, AllByRecursion}
 use Rattle.std.specs.Option.{option_or}
 use Rattle.std.proofs.lemmas.Bool.{false≢true}
 use Rattle.sip_message.specs.declared.key.Key.{Key}
@@ -30,11 +30,19 @@ use Rattle.sip_transactions.specs.declared.trigger.Trigger.TheVariants as on
 use Rattle.sip_transactions.specs.Rows.{row_of, rows_of}
 use Rattle.sip_transactions.specs.Steps.Input.{is_abandon, message_in, role_of, trigger_of}
 use Rattle.sip_transactions.specs.Steps.Life.{acted, acted_if, armed, begun, entered, given_up, last_of, life_after, life_in, stepped, stepped_by, step_for}
-use Rattle.sip_transactions.specs.Steps.Output.{handed_out, made_bytes, outputs_of, send_out}
+use Rattle.sip_transactions.specs.Steps.Output.{handed_out, made_bytes, outputs_of, send_out, sent_bytes, up_out}
 use Rattle.sip_transactions.specs.Timers.{no_dues, rearmed}
 use Rattle.sip_transactions.proofs.ClientRows.{none-made}
 use Rattle.sip_transactions.proofs.LawSteps.{by_step}
 use Rattle.sip_transactions.proofs.RowFacts.{and-left, and-right, by_test, row_passes, table_passes}
+use Rattle.sip_agent_laws.proofs.agents.Lists.{both}
+use Rattle.sip_message.specs.declared.addr.Addr.{Addr}
+use Rattle.sip_message.specs.declared.message.Message.{Message}
+use Rattle.sip_transactions.specs.declared.output.UpKind.{UpKind}
+use Rattle.sip_transactions.specs.declared.output.DropReason.{DropReason}
+use Rattle.sip_transactions.specs.declared.step.UpAction.{UpAction}
+use Rattle.sip_transactions.specs.declared.output.Out.TheVariants as out
+use Rattle.sip_transactions.specs.declared.output.UpKind.TheVariants as kind
 
 -- ---- the tables
 
@@ -295,3 +303,38 @@ first_in P key timed goes =
     by_step (λ after. HeldIn P after.0) key None timed tt tt
     (λ step row. by_begun P key timed step (begun (role_of key) timed.input)
     (begun_calm (role_of key) timed.input) (goes row.trigger step row.triggered row.row))
+
+-- ---- what a row gives
+
+-- each output of a row passes, if what it hands up passes
+module _ (P : Out → Type 0) (key : Key) (context : Context)
+    (sends : (bytes : List ℕ) → P (out.Send key context.to bytes)) where
+  sends_each : (bytes : Option (List ℕ))
+      → AllByRecursion P (option_to_list (option_map (send_out key context.to) bytes))
+  sends_each None = tt
+  sends_each (Some bytes) = (sends bytes, tt)
+
+  pub outputs_each : (step : Step) (made : Option (List ℕ)) (arrived : Option (Message × Addr))
+      → AllByRecursion P (option_to_list (handed_out key context step.handed arrived))
+      → AllByRecursion P (outputs_of key context step made arrived)
+  unfolding outputs_of
+  outputs_each step made arrived handed =
+      both P (option_to_list (handed_out key context step.handed arrived)) _ handed
+      (sends_each (sent_bytes context.last step.sent made))
+
+  module _ (ups : (kind : UpKind) → P (up_out key context kind))
+      (drops : (place : ℕ) (why : DropReason) → P (out.Dropped place why)) where
+    handed_each : (handed : UpAction) (arrived : Option (Message × Addr))
+        → AllByRecursion P (option_to_list (handed_out key context handed arrived))
+    unfolding handed_out
+    handed_each up.Nothing arrived = tt
+    handed_each up.Message None = tt
+    handed_each up.Message (Some arrived) = (ups _, tt)
+    handed_each up.Timeout arrived = (ups kind.Timeout, tt)
+    handed_each up.Failed arrived = (ups kind.Failed, tt)
+    handed_each up.NoTransaction arrived = (drops context.id.place _, tt)
+
+    -- whatever it is
+    pub ups_each : (step : Step) (made : Option (List ℕ)) (arrived : Option (Message × Addr))
+        → AllByRecursion P (outputs_of key context step made arrived)
+    ups_each step made arrived = outputs_each step made arrived (handed_each step.handed arrived)

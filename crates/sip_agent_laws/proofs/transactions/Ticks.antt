@@ -1,11 +1,10 @@
 -- What a tick does to a transaction; 64*T1 after the last other input it is gone or waits.
-use Rattle.std.proofs.Common.{◌≡◌, ℕ, ◌+◌, ◌≤◌, Bool, true, false, ◌||◌, List, [], ◌++◌, refl, sym, ◌∙◌, subst, arith, ◌&&◌, ◌∷◌, ap, ◌⊎◌, inl, inr}
-use Rattle.std.specs.Prelude.{Option, None, Some, cond, not, is_some, nat_le, option_map, option_to_list, is_none}
+use Rattle.std.proofs.Common.{◌≡◌, ℕ, ◌+◌, ◌≤◌, Bool, true, false, ◌||◌, List, [], refl, sym, ◌∙◌, subst, arith, ◌&&◌, ◌∷◌, ap, ◌⊎◌, inl, inr}
+use Rattle.std.specs.Prelude.{Option, None, Some, cond, not, is_some, nat_le, option_to_list, is_none}
 use Rattle.std.specs.List.{AllByRecursion}
 use Rattle.std.proofs.lemmas.Bool.{false≢true, leb-true, le-leb}
 use Rattle.std.proofs.lemmas.Nat.{pow_pos}
 use Rattle.std.proofs.lemmas.Grind.{common_steps}
-use Rattle.sip_message.specs.declared.addr.Addr.{Addr}
 use Rattle.sip_message.specs.declared.key.Key.{Key}
 use Rattle.sip_timers.specs.Earlier.{earlier}
 use Rattle.sip_timers.specs.Queue.{is_due}
@@ -27,14 +26,14 @@ use Rattle.sip_transactions.specs.Dues.{Dues}
 use Rattle.sip_transactions.specs.Machine.{life_due}
 use Rattle.sip_transactions.specs.Steps.Input.{role_of, trigger_of}
 use Rattle.sip_transactions.specs.Steps.Life.{begun, step_machine, stepped}
-use Rattle.sip_transactions.specs.Steps.Output.{handed_out, outputs_of, send_out, sent_bytes}
+use Rattle.sip_transactions.specs.Steps.Output.{handed_out, outputs_of}
 use Rattle.sip_transactions.specs.Timers.{interval, rearmed}
 use Rattle.sip_transactions.proofs.LawSteps.{by_step, is_ended}
 use Rattle.sip_transactions.proofs.OneRequest.{life_after-ended}
 use Rattle.sip_transactions.proofs.Pace.{interval_least}
 use Rattle.sip_transactions.proofs.RowFacts.{by_test, and-left, and-right, not_both}
 use Rattle.sip_agent_laws.specs.Transactions.Timers.{IsQuiet, NothingLeftDue, TicksAreQuiet, waits, ComesBy, GoneUnlessWaiting, has_tick_from, is_gone_or_waits}
-use Rattle.sip_agent_laws.proofs.transactions.Inputs.{tick_trigger, By, HeldIn, after_row, by_input, passes, rule, begins, first_in, next_in}
+use Rattle.sip_agent_laws.proofs.transactions.Inputs.{tick_trigger, By, HeldIn, after_row, by_input, passes, rule, begins, first_in, next_in, outputs_each}
 use Rattle.sip_agent_laws.proofs.transactions.Timed.{IsTimed, can_be, implied, reached, repeats, always, entered_passes, enters, starts, stays}
 use Rattle.sip_timers.specs.declared.estimate.TheConstants.{LIFETIME}
 use Rattle.keyed_machine.proofs.Phases.{state_from-append}
@@ -175,28 +174,21 @@ abbrev ticks_quiet : Role → State → Trigger → Step → Bool
 ticks_quiet role state trigger step =
     not (is_end trigger || is_retransmit trigger) || is_quiet step.handed
 
-sends_quiet : (key : Key) (to : Addr) (bytes : Option (List ℕ))
-    → AllByRecursion IsQuiet (option_to_list (option_map (send_out key to) bytes))
-sends_quiet key to None = tt
-sends_quiet key to (Some bytes) = (tt, tt)
-
-row_quiet : (key : Key) (context : Context) (handed : UpAction)
-    (made : Option (List ℕ)) → is_quiet handed ≡ true
-    → AllByRecursion IsQuiet (option_to_list (handed_out key context handed None)
-    ++ option_to_list (option_map (send_out key context.to) made))
+handed_quiet : (key : Key) (context : Context) (handed : UpAction) → is_quiet handed ≡ true
+    → AllByRecursion IsQuiet (option_to_list (handed_out key context handed None))
 unfolding handed_out
-row_quiet key context up.Nothing made quiet = sends_quiet key context.to made
-row_quiet key context up.Message made quiet = sends_quiet key context.to made
-row_quiet key context up.Timeout made quiet = (refl, sends_quiet key context.to made)
-row_quiet key context up.Failed made quiet = absurd (false≢true quiet)
-row_quiet key context up.NoTransaction made quiet = absurd (false≢true quiet)
+handed_quiet key context up.Nothing quiet = tt
+handed_quiet key context up.Message quiet = tt
+handed_quiet key context up.Timeout quiet = (refl, tt)
+handed_quiet key context up.Failed quiet = absurd (false≢true quiet)
+handed_quiet key context up.NoTransaction quiet = absurd (false≢true quiet)
 
 outputs_quiet : (key : Key) (context : Context) (step : Step) (made : Option (List ℕ))
     → is_quiet step.handed ≡ true
     → AllByRecursion IsQuiet (outputs_of key context step made None)
-unfolding outputs_of
 outputs_quiet key context step made quiet =
-    row_quiet key context step.handed (sent_bytes context.last step.sent made) quiet
+    outputs_each IsQuiet key context (λ bytes. tt) step made None
+    (handed_quiet key context step.handed quiet)
 
 pub ticks_are_quiet : TicksAreQuiet step_machine
 unfolding begun
@@ -214,7 +206,7 @@ ticks_are_quiet key (Some life) now =
 
 -- ---- the end comes by a moment
 
-abbrev EndsBy : ℕ → Option ℕ → Type 0
+abbrev pub EndsBy : ℕ → Option ℕ → Type 0
 EndsBy bound None = Unit {0}
 EndsBy bound (Some end) = end ≤ bound
 
@@ -254,11 +246,11 @@ rearmed_by held now moment input trigger is comes Both dues ok by =
 rearmed_by held now moment input trigger is comes (Again pace) dues ok by = by
 
 -- the timers of the state run, and the end comes by then
-record Ends (role : Role) (bound : ℕ) (state : State) (context : Context) : Type 0 where
-  timed : IsTimed role state context
-  by : EndsBy bound context.timers.ending
+pub record Ends (role : Role) (bound : ℕ) (state : State) (context : Context) : Type 0 where
+  pub timed : IsTimed role state context
+  pub by : EndsBy bound context.timers.ending
 
-both_in : (role : Role) (bound : ℕ) (held : Option Life) → HeldIn (IsTimed role) held
+pub both_in : (role : Role) (bound : ℕ) (held : Option Life) → HeldIn (IsTimed role) held
     → HeldIn (λ state context. EndsBy bound context.timers.ending) held
     → HeldIn (Ends role bound) held
 both_in role bound None timed by = tt
@@ -302,7 +294,7 @@ pub as_tick : (P : Timed Input → Type 0) (timed : Timed Input) → timed.input
 as_tick P timed is holds =
     subst (λ input. P (record { moment = timed.moment; input = input })) (sym is) holds
 
-abbrev Waiting : Role → State → Context → Type 0
+abbrev pub Waiting : Role → State → Context → Type 0
 Waiting role state context = waits role state ≡ true
 
 abbrev ticks_wait : Role → State → Trigger → Step → Bool
@@ -310,7 +302,7 @@ ticks_wait role state trigger step =
     not (is_end trigger || is_retransmit trigger) || (not (waits role state)
     || enters (waits role) (Some state) step)
 
-waits_on : (key : Key) (held : Option Life) (now : ℕ) → HeldIn (Waiting (role_of key)) held
+pub waits_on : (key : Key) (held : Option Life) (now : ℕ) → HeldIn (Waiting (role_of key)) held
     → HeldIn (Waiting (role_of key)) (stepped key held (tick_at now)).0
 waits_on key None now waiting =
     subst (HeldIn (Waiting (role_of key))) (sym (none_ticks key now)) tt
@@ -356,7 +348,7 @@ due_or_waits now bound None true by late runs = inr refl
 due_or_waits now bound None false by late runs = absurd (false≢true runs)
 due_or_waits now bound (Some end) w by late runs = inl (le-leb end now (omega arith))
 
-ends_or_waits : (key : Key) (bound : ℕ) (held : Option Life) (now : ℕ)
+pub ends_or_waits : (key : Key) (bound : ℕ) (held : Option Life) (now : ℕ)
     → HeldIn (Ends (role_of key) bound) held → bound ≤ now
     → HeldIn (Waiting (role_of key)) (stepped key held (tick_at now)).0
 ends_or_waits key bound None now ends late = waits_on key None now tt
@@ -368,14 +360,14 @@ ends_or_waits key bound (Some life) now ends late =
       | inr waiting ↦ waits_on key (Some life) now waiting
     ]
 
-ends_on : (key : Key) (moment : ℕ) (held : Option Life) (timed : Timed Input)
+pub ends_on : (key : Key) (moment : ℕ) (held : Option Life) (timed : Timed Input)
     → ComesBy moment timed → HeldIn (Ends (role_of key) (moment + LIFETIME)) held
     → HeldIn (Ends (role_of key) (moment + LIFETIME)) (stepped key held timed).0
 ends_on key moment None timed comes ends = ends_first key moment timed comes
 ends_on key moment (Some life) timed comes ends = ends_next key moment life timed comes ends
 
 -- a tick comes by any moment
-ticks_come : (moment : ℕ) (timed : Timed Input) → timed.input ≡ None → ComesBy moment timed
+pub ticks_come : (moment : ℕ) (timed : Timed Input) → timed.input ≡ None → ComesBy moment timed
 ticks_come moment timed is other = absurd (false≢true (sym other ∙ ap is_none is))
 
 wait_after : (key : Key) (moment : ℕ) (held : Option Life) (ticks : List (Timed Input))
@@ -394,18 +386,23 @@ wait_after key moment held (timed ∷ ticks) all found ends =
     (sym (ap (λ b. b || has_tick_from (moment + LIFETIME) ticks) early) ∙ found)
     (ends_on key moment held timed (ticks_come moment timed all.0) ends))
 
-gone_or_waits : (role : Role) (held : Option Life) → HeldIn (Waiting role) held
+pub gone_or_waits : (role : Role) (held : Option Life) → HeldIn (Waiting role) held
     → is_gone_or_waits role held ≡ true
 gone_or_waits role None waiting = refl
 gone_or_waits role (Some life) waiting = waiting
 
+pub ends_after : (key : Key) (moment : ℕ) (inputs : List (Timed Input))
+    → AllByRecursion (ComesBy moment) inputs
+    → HeldIn (Ends (role_of key) (moment + LIFETIME)) (state_from step_machine key None inputs)
+ends_after key moment inputs came =
+    always (Ends (role_of key) (moment + LIFETIME)) (ComesBy moment) key (ends_first key moment)
+    (ends_next key moment) None inputs came tt
+
 pub gone_unless_waiting : GoneUnlessWaiting step_machine
 gone_unless_waiting key moment inputs ticks came all found =
-    let Ending : State → Context → Type 0 = Ends (role_of key) (moment + LIFETIME) in
-    let held = state_from step_machine key None inputs in
-    let ends : HeldIn Ending held = always Ending (ComesBy moment) key (ends_first key moment)
-    (ends_next key moment) None inputs came tt in
     subst (λ after. is_gone_or_waits (role_of key) after ≡ true)
     (sym (state_from-append step_machine key None inputs ticks))
-    (gone_or_waits (role_of key) (state_from step_machine key held ticks)
-    (wait_after key moment held ticks all found ends))
+    (gone_or_waits (role_of key)
+    (state_from step_machine key (state_from step_machine key None inputs) ticks)
+    (wait_after key moment (state_from step_machine key None inputs) ticks all found
+    (ends_after key moment inputs came)))

@@ -1,5 +1,5 @@
--- When an agent is at rest: after rounds without events, 64*T1 after the last event, and again 64*T1
--- later. T1 is that of RFC 3261, section 17.1.1.1.
+-- When an agent is at rest: after rounds without events, 64*T1 after the last event. T1 is that of
+-- RFC 3261, section 17.1.1.1.
 use Rattle.std.specs.Prelude.{◌≡◌, ◌≤◌, ℕ, ◌+◌, ◌*◌, true, nat_le, List, [], ◌++◌}
 use Rattle.std.specs.List.{AllByRecursion, list_any}
 use Rattle.sip_message.specs.declared.key.Key.{Key}
@@ -29,12 +29,6 @@ pub record IsQuietSince (moment : ℕ) (rounds idle : List Round) : Type 0 where
   pub none : AreWithoutEvents idle
   pub reached : reaches (moment + 64 * T1) idle
 
--- then each call is at rest
-abbrev pub EachCallComesToRest : Type 0
-EachCallComesToRest = (config : Config) (moment : ℕ) (rounds idle : List Round)
-    → IsQuietSince moment rounds idle → (call_id : List ℕ)
-    → IsAtRest (call_after config (rounds ++ idle) call_id)
-
 -- ---- the agent
 
 -- Each transaction is gone, or waits without a timer; each call is at rest; nothing is due ever.
@@ -44,9 +38,7 @@ pub record IsAgentAtRest (config : Config) (rounds : List Round) : Type 0 where
   pub calls : (call_id : List ℕ) → IsAtRest (call_after config rounds call_id)
   pub due : (moment : ℕ) → IsDueAfter config rounds moment → ⊥
 
--- After a second time of that length the agent is at rest. The first is for the calls, which send
--- responses again till then; the second for the transactions, which these reach.
+-- then the agent is at rest
 abbrev pub EachAgentComesToRest : Type 0
-EachAgentComesToRest = (config : Config) (first second : ℕ) (rounds idle later : List Round)
-    → IsQuietSince first rounds idle → IsQuietSince second (rounds ++ idle) later
-    → IsAgentAtRest config ((rounds ++ idle) ++ later)
+EachAgentComesToRest = (config : Config) (moment : ℕ) (rounds idle : List Round)
+    → IsQuietSince moment rounds idle → IsAgentAtRest config (rounds ++ idle)

@@ -15,18 +15,18 @@ pub record IsSettled (call : Option Call) : Type 0 where
   pub user : NothingWaits call
   pub transaction : awaits_report call ≡ false
 
--- If nothing waits for the user in any call, then after rounds without events, for 64*T1 and again
--- for 64*T1, no transaction is held.
+-- If nothing waits for the user in any call, then after rounds without events, for 64*T1, no
+-- transaction is held.
 abbrev pub NoTransactionStays : Type 0
-NoTransactionStays = (config : Config) (first second : ℕ) (rounds idle later : List Round)
+NoTransactionStays = (config : Config) (moment : ℕ) (rounds idle : List Round)
     → ((call_id : List ℕ) → NothingWaits (call_after config rounds call_id))
-    → IsQuietSince first rounds idle → IsQuietSince second (rounds ++ idle) later
-    → (live_of config (past_of config ((rounds ++ idle) ++ later))).0 ≡ 0
+    → IsQuietSince moment rounds idle
+    → (live_of config (past_of config (rounds ++ idle))).0 ≡ 0
 
--- Nothing stays. If nothing waits in any call, then after rounds without events, for 64*T1 and again
--- for 64*T1, no transaction and no call is held.
+-- Nothing stays. If nothing waits in any call, then after rounds without events, for 64*T1, no
+-- transaction and no call is held.
 abbrev pub NothingStays : Type 0
-NothingStays = (config : Config) (first second : ℕ) (rounds idle later : List Round)
+NothingStays = (config : Config) (moment : ℕ) (rounds idle : List Round)
     → ((call_id : List ℕ) → IsSettled (call_after config rounds call_id))
-    → IsQuietSince first rounds idle → IsQuietSince second (rounds ++ idle) later
-    → live_of config (past_of config ((rounds ++ idle) ++ later)) ≡ (0, 0)
+    → IsQuietSince moment rounds idle
+    → live_of config (past_of config (rounds ++ idle)) ≡ (0, 0)

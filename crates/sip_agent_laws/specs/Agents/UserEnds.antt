@@ -54,19 +54,17 @@ pub record EndsAll (config : Config) (rounds : List Round) (round : Round) : Typ
       → SomeCommand call_id (GivesUp entry.0) round.events)
       (side_held (call_after config rounds call_id)).clients
 
--- Whatever the peers did: after a round that ends what waits, and rounds without events for 64*T1
--- and again for 64*T1, no transaction is held.
+-- Whatever the peers did: after a round that ends what waits, and rounds without events for 64*T1,
+-- no transaction is held.
 abbrev pub UserEndsTransactions : Type 0
-UserEndsTransactions = (config : Config) (first second : ℕ) (rounds : List Round) (round : Round)
-    (idle later : List Round) → EndsWhatWaits config rounds round
-    → IsQuietSince first (rounds ++ round ∷ []) idle
-    → IsQuietSince second ((rounds ++ round ∷ []) ++ idle) later
-    → (live_of config (past_of config (((rounds ++ round ∷ []) ++ idle) ++ later))).0 ≡ 0
+UserEndsTransactions = (config : Config) (moment : ℕ) (rounds : List Round) (round : Round)
+    (idle : List Round) → EndsWhatWaits config rounds round
+    → IsQuietSince moment (rounds ++ round ∷ []) idle
+    → (live_of config (past_of config ((rounds ++ round ∷ []) ++ idle))).0 ≡ 0
 
 -- After a round that ends all of it no call is held either.
 abbrev pub UserEndsAgent : Type 0
-UserEndsAgent = (config : Config) (first second : ℕ) (rounds : List Round) (round : Round)
-    (idle later : List Round) → EndsAll config rounds round
-    → IsQuietSince first (rounds ++ round ∷ []) idle
-    → IsQuietSince second ((rounds ++ round ∷ []) ++ idle) later
-    → live_of config (past_of config (((rounds ++ round ∷ []) ++ idle) ++ later)) ≡ (0, 0)
+UserEndsAgent = (config : Config) (moment : ℕ) (rounds : List Round) (round : Round)
+    (idle : List Round) → EndsAll config rounds round
+    → IsQuietSince moment (rounds ++ round ∷ []) idle
+    → live_of config (past_of config ((rounds ++ round ∷ []) ++ idle)) ≡ (0, 0)

@@ -1,6 +1,6 @@
 -- How the user ends what waits in a call: a final response, or giving up (own: RFC 3261 lets an
 -- INVITE wait for ever, section 9.1).
-use Rattle.std.specs.Prelude.{◌≡◌, ◌⊎◌, ◌++◌, ℕ, true, false, List, [], ◌∷◌, Option, None, Some}
+use Rattle.std.specs.Prelude.{◌≡◌, ◌⊎◌, ℕ, true, false, List, [], ◌∷◌, Option, None, Some}
 use Rattle.std.specs.List.{AllByRecursion, list_any}
 use Rattle.keyed_machine.specs.Machine.{Timed}
 use Rattle.sip_message.specs.declared.id.Id.{Id}
@@ -22,11 +22,14 @@ use Rattle.sip_clients.specs.Client.{Side, client_at}
 use Rattle.sip_calls.specs.declared.call.Call.{Call}
 use Rattle.sip_calls.specs.declared.calls.Calls.{Calls}
 use Rattle.sip_calls.specs.Call.{CallItem, Taken, call_step}
-use Rattle.sip_calls.specs.HeldRequests.{RequestsDiffer}
 use Rattle.sip_calls.specs.Histories.{call_from}
 use Rattle.sip_calls.specs.Provisionals.{side_held}
 use Rattle.sip_agent_laws.specs.Calls.Rejections.{IsRejection}
 use Rattle.sip_agent_laws.specs.Calls.Rest.{is_from_outside}
+use Rattle.sip_round.specs.Answers.{calls_of}
+use Rattle.sip_round.specs.CallsHeld.{call_after}
+use Rattle.sip_round.specs.declared.config.Config.{Config}
+use Rattle.sip_round.specs.declared.round.Round.{Round}
 use Rattle.sip_agent_laws.specs.Calls.Waiting.{Waiting, InDialog, OfPeer, OurInvite, NothingWaits, waits}
 
 -- ---- giving up
@@ -90,11 +93,11 @@ EndingAddsNothing = (calls : Calls) (call : Option Call) (event : Id) (command :
     (now : ℕ) (one : Waiting) → Ends one command
     → AddsNothing calls call (Some (event, User command)) now
 
--- whatever came to a call, if no id of a request came up twice: what it ends waits no longer
+-- after any rounds of an agent: what it ends waits no longer
 abbrev pub EndingEnds : Type 0
-EndingEnds = (calls : Calls) (inputs : List (Timed CallItem)) → RequestsDiffer inputs
-    → (event : Id) (command : UserCommand) (now : ℕ) (one : Waiting) → Ends one command
-    → waits one (call_step calls (call_from calls None inputs)
+EndingEnds = (config : Config) (rounds : List Round) (call_id : List ℕ) (event : Id)
+    (command : UserCommand) (now : ℕ) (one : Waiting) → Ends one command
+    → waits one (call_step (calls_of config) (call_after config rounds call_id)
     (Some (event, User command)) now).0 ≡ false
 
 -- ---- all of it
@@ -109,10 +112,12 @@ abbrev pub SomeEnds : Waiting → List (Timed CallItem) → Type 0
 SomeEnds one [] = ⊥
 SomeEnds one (timed ∷ inputs) = IsEndOf one timed ⊎ SomeEnds one inputs
 
--- Whatever came to a call, if no id of a request came up twice: commands that end something, among
--- them one for each thing that waits, leave nothing that waits for the user.
+-- After any rounds of an agent: commands that end something, among them one for each thing that
+-- waits, leave nothing in the call that waits for the user.
 abbrev pub UserEndsAll : Type 0
-UserEndsAll = (calls : Calls) (inputs commands : List (Timed CallItem)) → RequestsDiffer inputs
+UserEndsAll = (config : Config) (rounds : List Round) (call_id : List ℕ)
+    (commands : List (Timed CallItem))
     → AllByRecursion (λ timed. (one : Waiting) × IsEndOf one timed) commands
-    → ((one : Waiting) → waits one (call_from calls None inputs) ≡ true → SomeEnds one commands)
-    → NothingWaits (call_from calls None (inputs ++ commands))
+    → ((one : Waiting) → waits one (call_after config rounds call_id) ≡ true
+    → SomeEnds one commands)
+    → NothingWaits (call_from (calls_of config) (call_after config rounds call_id) commands)

@@ -1,6 +1,0 @@
--- The law `each_call_comes_to_rest`: after 64*T1 without events each call is at rest.
-use Rattle.sip_agent_laws.proofs.agents.RestFrom.{each_call_comes_to_rest}
-use Rattle.sip_agent_laws.proofs.agents.each_call_comes_to_rest.Goals as goal
-
-pub returns : goal.returns
-returns c = each_call_comes_to_rest
