@@ -11,6 +11,9 @@ use std::thread::Threads;
 const INVITE: &str =
     "invite c 192.0.2.9:5060 sip:b@192.0.2.9 sip:a@192.0.2.1 sip:b@h supported -\n";
 
+const MESSAGE: &str =
+    "plain c 192.0.2.9:5060 MESSAGE sip:b@192.0.2.9 sip:a@192.0.2.1 sip:b@192.0.2.9 -\n";
+
 const CALLER: u8 = 1;
 
 const CALLEE: u8 = 9;
@@ -48,6 +51,11 @@ const CONVERSATION: [(u8, Spoken, &str); 13] = [
     (CALLEE, Spoken::Carried(4), "ack 0.1 -"),
 ];
 
+/// Where a datagram arrives: in these rounds of the other side.
+trait Carry {
+    fn rounds(&mut self, alloc: Global, bytes: &str, at: u32) -> Result<Vec<u32>, Fail>;
+}
+
 /// A network that loses `lost` of eight datagrams, and duplicates one.
 #[derive(Drop)]
 struct Network {
@@ -68,6 +76,34 @@ impl Network {
         self.sent = self.sent.wrapping_add(1);
         let drawn = self.below(8);
         if drawn < self.lost { 0 } else { 1 + drawn / 7 }
+    }
+}
+
+impl Carry for Network {
+    fn rounds(&mut self, alloc: Global, _bytes: &str, at: u32) -> Result<Vec<u32>, Fail> {
+        let mut rounds = Vec::new(alloc);
+        for _ in 0..self.copies() {
+            rounds.push(at.saturating_add(self.below(5)).saturating_add(1))?;
+        }
+        Ok(rounds)
+    }
+}
+
+/// A network that loses the first copy of each datagram, and then every other one: of any two copies
+/// one arrives, in the next round.
+#[derive(Drop)]
+struct EveryOther {
+    sent: Vec<String>,
+}
+
+impl Carry for EveryOther {
+    fn rounds(&mut self, alloc: Global, bytes: &str, at: u32) -> Result<Vec<u32>, Fail> {
+        let mut rounds = Vec::new(alloc);
+        if self.sent.iter().filter(|it| it.as_str() == bytes).count() % 2 == 1 {
+            rounds.push(at.saturating_add(1))?;
+        }
+        self.sent.push(String::from_str(alloc, bytes)?)?;
+        Ok(rounds)
     }
 }
 
@@ -136,10 +172,10 @@ fn file<T: Threads + Sync>(rt: &T, alloc: Global, me: &mut Side, at: u32) -> Res
 }
 
 // A round of one side. Its user is told, and what is sent is on its way to the peer.
-fn turn<T: Threads + Sync>(
+fn turn<T: Threads + Sync, N: Carry>(
     rt: &T,
     alloc: Global,
-    network: &mut Network,
+    network: &mut N,
     me: &mut Side,
     peer: &mut Side,
     at: u32,
@@ -155,8 +191,7 @@ fn turn<T: Threads + Sync>(
             }
         } else if let Some(("send", datagram)) = line.split_once(' ') {
             let (_, bytes) = datagram.split_once(' ').ok_or("an address")?;
-            for _ in 0..network.copies() {
-                let due = at.saturating_add(network.below(5)).saturating_add(1);
+            for due in network.rounds(alloc, bytes, at)? {
                 let event = format!(in alloc; "datagram {local} {bytes}\n")?;
                 peer.events.push((due, event))?;
             }
@@ -193,6 +228,31 @@ fn calls_over_a_network_that_loses_datagrams(rt: HostRuntime) -> Result<(), Fail
         }
     }
     assert!(rt; (whole, sent) == (192, 10_108));
+    Ok(())
+}
+
+// The premises of the laws `requests_arrive` and `answers_arrive` of sip_conversation can be met.
+// Both sides have one clock, and a round each 500 ms, so at most that after a timer is due; of two
+// copies of a datagram one comes within 500 ms. The request goes out at 0, 500, 1500 and 3500 ms:
+// the second copy comes at 1000, and is answered at 1500; the fourth comes at 4000, and gets the
+// response again, which comes at 4500. The law says: by 1500 and 8000 ms, two lags and two delays.
+#[test]
+fn a_response_over_a_network_that_delivers(rt: HostRuntime) -> Result<(), Fail> {
+    let (alloc, mut told) = (rt.alloc(), None);
+    let sent = Vec::new(alloc);
+    let mut network = EveryOther { sent };
+    let (mut caller, mut callee) = (side_at(alloc, CALLER)?, side_at(alloc, CALLEE)?);
+    caller.events.push((0, String::from_str(alloc, MESSAGE)?))?;
+    for at in 0..24u32 {
+        turn(&rt, alloc, &mut network, &mut caller, &mut callee, at)?;
+        turn(&rt, alloc, &mut network, &mut callee, &mut caller, at)?;
+        if caller.statuses.as_str() == "200" {
+            told = Some(500 * at);
+            break;
+        }
+    }
+    assert!(rt; told == Some(4500));
+    assert!(rt; network.sent.len() == 6);
     Ok(())
 }
 
