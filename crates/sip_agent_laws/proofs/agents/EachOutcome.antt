@@ -1,9 +1,10 @@
 -- The application is told of an outcome of each request that isn't given up.
 use Rattle.std.proofs.Common.{◌≡◌, ◌⊎◌, inl, inr, ⊎_elim, ℕ, suc, ◌+◌, ◌*◌, ◌≤◌, Bool, true, false, cond, ◌||◌, List, [], ◌∷◌, ◌++◌, map, refl, sym, ap, ◌∙◌, append_assoc, append-nil, subst, arith}
+use Rattle.std.proofs.lemmas.List.Folds.{list_any-append}
 use Rattle.std.specs.Prelude.{Option, None, Some, IsSome, codes, count_by, filter, nat_le}
 use Rattle.std.specs.BTreeMap.{is_at}
 use Rattle.std.specs.List.{AllByRecursion, flat_map, list_any}
-use Rattle.std.proofs.lemmas.Bool.{false≢true}
+use Rattle.std.proofs.lemmas.Bool.{false≢true, or_parts}
 use Rattle.std.proofs.lemmas.Grind.{flat_map-append}
 use Rattle.std.proofs.lemmas.List.Sums.{sum_by-cons}
 use Rattle.sip_message.specs.Keys.{exact_keys}
@@ -136,8 +137,8 @@ kept_orders k now ((own, c) ∷ cs) at none =
     let mine : (is_abandon (Some (asked_by own c)) || rest) ≡ false =
     sym (ap (λ b. any (map (λ (item : model.Item Key (Timed Input)). item.input)
     (cond b (this ∷ others) others))) hit) ∙ none in (
-      λ gives. one c gives (first_false _ rest mine),
-      kept_orders k now cs (suc at) (second_false _ rest mine),
+      λ gives. one c gives (or_parts _ rest mine).0,
+      kept_orders k now cs (suc at) (or_parts _ rest mine).1,
     ))
     (λ miss. (
       λ gives. false≢true (sym miss ∙ its_own c gives),
@@ -162,14 +163,6 @@ kept_orders k now ((own, c) ∷ cs) at none =
 
     rest : Bool
     rest = any (own_items key_cmp (timed_items now (command_items (suc at) cs)) k)
-
-    first_false : (a b : Bool) → (a || b) ≡ false → a ≡ false
-    first_false true b e = e
-    first_false false b e = refl
-
-    second_false : (a b : Bool) → (a || b) ≡ false → b ≡ false
-    second_false true b e = absurd (false≢true (sym e))
-    second_false false b e = e
 
     one : (c : Command) → IsAbandonOf k c → is_abandon (Some (asked_by own c)) ≡ false → ⊥
     one (order.Start key call_id message to) gives kept = gives
@@ -339,22 +332,11 @@ module _ (config : Config) (number : ℕ) (past : Past) (round : Round) where
 abbrev any_abandon : List (Timed Input) → Bool
 any_abandon inputs = list_any (λ timed. is_abandon timed.input) inputs
 
-first_part : (xs ys : List (Timed Input)) → any_abandon (xs ++ ys) ≡ false
-    → any_abandon xs ≡ false
-first_part [] ys none = refl
-first_part (x ∷ xs) ys none =
-    by_bool (is_abandon x.input)
-    (λ hit. absurd (false≢true (sym none ∙ ap (λ b. b || any_abandon (xs ++ ys)) hit)))
-    (λ miss. ap (λ b. b || any_abandon xs) miss
-    ∙ first_part xs ys (sym (ap (λ b. b || any_abandon (xs ++ ys)) miss) ∙ none))
-
-last_part : (xs ys : List (Timed Input)) → any_abandon (xs ++ ys) ≡ false
-    → any_abandon ys ≡ false
-last_part [] ys none = none
-last_part (x ∷ xs) ys none =
-    by_bool (is_abandon x.input)
-    (λ hit. absurd (false≢true (sym none ∙ ap (λ b. b || any_abandon (xs ++ ys)) hit)))
-    (λ miss. last_part xs ys (sym (ap (λ b. b || any_abandon (xs ++ ys)) miss) ∙ none))
+both_parts : (xs ys : List (Timed Input)) → any_abandon (xs ++ ys) ≡ false
+    → (any_abandon xs ≡ false) × (any_abandon ys ≡ false)
+both_parts xs ys none =
+    or_parts (any_abandon xs) (any_abandon ys)
+    (sym (list_any-append (λ (timed : Timed Input). is_abandon timed.input) xs ys) ∙ none)
 
 -- what the transaction is given in phases
 abbrev given_to : List (Phase Key (Timed Input)) → Key → List (Timed Input)
@@ -376,18 +358,14 @@ module _ (config : Config) (k : Key) where
   one_kept number past round none =
       let one = first config number past round ∷ [] in
       let last = third config number past round ∷ [] in
-      let parts = two_parts (past.transactions ++ one) last k in
-      let whole : any_abandon (given_to (past.transactions ++ one) k ++ given_to last k) ≡ false =
-      sym (ap any_abandon parts) ∙ none in
+      let parts = both_parts (given_to (past.transactions ++ one) k) (given_to last k)
+      (sym (ap any_abandon (two_parts (past.transactions ++ one) last k)) ∙ none) in
       let mine = own_items key_cmp (timed_items round.moment
-      (command_items 0 (orders (given_second config number past round)))) k in
-      let end : any_abandon mine ≡ false =
-      first_part mine []
-      (last_part (given_to (past.transactions ++ one) k) (given_to last k) whole) in (
-        first_part (given_to past.transactions k) (given_to one k)
-            (sym (ap any_abandon (two_parts past.transactions one k))
-            ∙ first_part (given_to (past.transactions ++ one) k) (given_to last k) whole),
-        kept_orders k round.moment (orders (given_second config number past round)) 0 end,
+      (command_items 0 (orders (given_second config number past round)))) k in (
+        (both_parts (given_to past.transactions k) (given_to one k)
+            (sym (ap any_abandon (two_parts past.transactions one k)) ∙ parts.0)).0,
+        kept_orders k round.moment (orders (given_second config number past round)) 0
+            (both_parts mine [] parts.1).0,
       )
 
   all_kept : (rounds : List Round) (number : ℕ) (past : Past)
