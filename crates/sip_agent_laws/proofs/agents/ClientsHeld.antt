@@ -6,7 +6,7 @@ use Rattle.std.specs.List.{AllByRecursion}
 use Rattle.std.specs.Map.{lookup, remove_entry, set_value}
 use Rattle.std.specs.Option.{option_map_or}
 use Rattle.std.specs.Str.{bytes_eq}
-use Rattle.std.proofs.lemmas.Bool.{false≢true}
+use Rattle.std.proofs.lemmas.Bool.{false≢true, or_parts, and_parts}
 use Rattle.std.proofs.lemmas.Grind.{common_steps}
 use Rattle.std.proofs.lemmas.Map.{lookup-set_value}
 use Rattle.indexmap.specs.IndexMap.{insert_entry}
@@ -423,10 +423,6 @@ module _ (k : Key) (id : Id) where
           call = support_call command.support _ ∙ is;
         })
 
-    or_false : (a b : Bool) → (a || b) ≡ false → (a ≡ false) × (b ≡ false)
-    or_false true b e = absurd cc
-    or_false false b e = (refl, e)
-
     pub plain_goes : (of : List ℕ) (event : Event) (command : Plain) (clients : Clients)
         → command.call_id ≡ of
         → Goes of clients (plain_command event command clients).0
@@ -444,8 +440,8 @@ module _ (k : Key) (id : Id) where
         (clients, refused event.id command.call_id BadMethod) (start (clients, []) client)
         (λ bad. calm_goes of clients clients _ (silent clients clients _ refl (λ ours. ours)))
         (λ good. start_goes of clients client (record {
-          kind = sym (or_false first second
-              (or_false (first || second) (bytes_eq command.method (codes "BYE")) good).0).1;
+          kind = sym (or_parts first second
+              (or_parts (first || second) (bytes_eq command.method (codes "BYE")) good).0).1;
           removal = refl;
           call = is;
         }))
@@ -826,10 +822,6 @@ module _ (k : Key) (id : Id) where
       early = λ early. absurd (false≢true (sym early ∙ is));
     }
 
-    first_so : (a b : Bool) → (a && b) ≡ true → a ≡ true
-    first_so true b e = refl
-    first_so false b e = e
-
     again_silent : (answer : Option (Option SentAck))
         → starts (option_map_or (λ (ack : SentAck). out.Direct ack.to ack.bytes ∷ [])
         (option_and_then (λ ack. ack) answer) []) ≡ []
@@ -856,18 +848,18 @@ module _ (k : Key) (id : Id) where
         by_if R (final && not (is_invite_kind client.kind && is_success reply.status))
         (last_response reply client dialogs) second
         (λ last. over_replied final client (last_response reply client dialogs)
-        (first_so final _ last)
+        (and_parts final _ last).0
         (over_silent client ((reply.status == 481) || (reply.status == 408)) dialogs) tt)
         (λ more. by_if R (final && is_some answer) (success_again answer client dialogs) third
         (λ again. over_replied final client (success_again answer client dialogs)
-        (first_so final _ again) (again_silent answer) tt)
+        (and_parts final _ again).0 (again_silent answer) tt)
         (λ new. by_if R (final && has_dialog client dialogs) (first_success reply client dialogs)
         fourth
         (λ success. asks_replied final (Ack client.id client.request.cseq.number) reply client
         (accepted reply client)
         (option_map_or (success_in (is_initial client) reply.response)
         (lookup (is_dialog_id reply.name) dialogs) (dialog_made_by reply client)) dialogs
-        (λ early. absurd (false≢true (sym early ∙ first_so final _ success))))
+        (λ early. absurd (false≢true (sym early ∙ (and_parts final _ success).0))))
         (λ none. by_if R final late fifth
         (λ over. over_replied final client late over refl tt)
         (λ early. by_if R is_told told (dialog_response reply client dialogs)

@@ -3,7 +3,7 @@ use Rattle.std.proofs.Common.{◌≡◌, ◌⊎◌, inl, inr, ⊎_elim, ℕ, suc
 use Rattle.std.specs.Prelude.{Option, None, Some, IsSome, codes, count_by, filter, nat_le}
 use Rattle.std.specs.BTreeMap.{is_at}
 use Rattle.std.specs.List.{AllByRecursion, flat_map, list_any}
-use Rattle.std.proofs.lemmas.Bool.{false≢true}
+use Rattle.std.proofs.lemmas.Bool.{false≢true, or_parts}
 use Rattle.std.proofs.lemmas.Grind.{flat_map-append}
 use Rattle.sip_message.specs.Keys.{exact_keys}
 use Rattle.sip_message.specs.Key.{key_cmp, keys_total, method_in}
@@ -61,6 +61,7 @@ use Rattle.sip_agent_laws.proofs.agents.Lists.{Among, among_flat, among_kept, am
 use Rattle.sip_agent_laws.proofs.agents.OpenLives.{is_server}
 use Rattle.sip_agent_laws.proofs.agents.SecondPhase.{fewer_counted, no_abandon, says}
 use Rattle.sip_agent_laws.proofs.calls.OneTold.{brings_outcome}
+use Rattle.std.proofs.lemmas.List.Folds.{list_any-append}
 
 -- ---- the transaction of a command
 
@@ -132,8 +133,8 @@ kept_orders k now ((own, c) ∷ cs) at none =
     let mine : (is_abandon (Some (asked_by own c)) || rest) ≡ false =
     sym (ap (λ b. any (map (λ (item : model.Item Key (Timed Input)). item.input)
     (cond b (this ∷ others) others))) hit) ∙ none in (
-      λ gives. one c gives (first_false _ rest mine),
-      kept_orders k now cs (suc at) (second_false _ rest mine),
+      λ gives. one c gives (or_parts _ rest mine).0,
+      kept_orders k now cs (suc at) (or_parts _ rest mine).1,
     ))
     (λ miss. (
       λ gives. false≢true (sym miss ∙ its_own c gives),
@@ -158,14 +159,6 @@ kept_orders k now ((own, c) ∷ cs) at none =
 
     rest : Bool
     rest = any (own_items key_cmp (timed_items now (command_items (suc at) cs)) k)
-
-    first_false : (a b : Bool) → (a || b) ≡ false → a ≡ false
-    first_false true b e = e
-    first_false false b e = refl
-
-    second_false : (a b : Bool) → (a || b) ≡ false → b ≡ false
-    second_false true b e = absurd (false≢true (sym e))
-    second_false false b e = e
 
     one : (c : Command) → IsAbandonOf k c → is_abandon (Some (asked_by own c)) ≡ false → ⊥
     one (order.Start key call_id message to) gives kept = gives
@@ -374,22 +367,11 @@ module _ (config : Config) (number : ℕ) (past : Past) (round : Round) where
 abbrev pub any_abandon : List (Timed Input) → Bool
 any_abandon inputs = list_any (λ timed. is_abandon timed.input) inputs
 
-first_part : (xs ys : List (Timed Input)) → any_abandon (xs ++ ys) ≡ false
-    → any_abandon xs ≡ false
-first_part [] ys none = refl
-first_part (x ∷ xs) ys none =
-    by_bool (is_abandon x.input)
-    (λ hit. absurd (false≢true (sym none ∙ ap (λ b. b || any_abandon (xs ++ ys)) hit)))
-    (λ miss. ap (λ b. b || any_abandon xs) miss
-    ∙ first_part xs ys (sym (ap (λ b. b || any_abandon (xs ++ ys)) miss) ∙ none))
-
-last_part : (xs ys : List (Timed Input)) → any_abandon (xs ++ ys) ≡ false
-    → any_abandon ys ≡ false
-last_part [] ys none = none
-last_part (x ∷ xs) ys none =
-    by_bool (is_abandon x.input)
-    (λ hit. absurd (false≢true (sym none ∙ ap (λ b. b || any_abandon (xs ++ ys)) hit)))
-    (λ miss. last_part xs ys (sym (ap (λ b. b || any_abandon (xs ++ ys)) miss) ∙ none))
+both_parts : (xs ys : List (Timed Input)) → any_abandon (xs ++ ys) ≡ false
+    → (any_abandon xs ≡ false) × (any_abandon ys ≡ false)
+both_parts xs ys none =
+    or_parts (any_abandon xs) (any_abandon ys)
+    (sym (list_any-append (λ (timed : Timed Input). is_abandon timed.input) xs ys) ∙ none)
 
 -- what the transaction is given in phases
 abbrev pub given_to : List (Phase Key (Timed Input)) → Key → List (Timed Input)
@@ -411,18 +393,14 @@ module _ (config : Config) (k : Key) where
   one_kept number past round none =
       let one = first config number past round ∷ [] in
       let last = third config number past round ∷ [] in
-      let parts = two_parts (past.transactions ++ one) last k in
-      let whole : any_abandon (given_to (past.transactions ++ one) k ++ given_to last k) ≡ false =
-      sym (ap any_abandon parts) ∙ none in
+      let parts = both_parts (given_to (past.transactions ++ one) k) (given_to last k)
+      (sym (ap any_abandon (two_parts (past.transactions ++ one) last k)) ∙ none) in
       let mine = own_items key_cmp (timed_items round.moment
-      (command_items 0 (orders (given_second config number past round)))) k in
-      let end : any_abandon mine ≡ false =
-      first_part mine []
-      (last_part (given_to (past.transactions ++ one) k) (given_to last k) whole) in (
-        first_part (given_to past.transactions k) (given_to one k)
-            (sym (ap any_abandon (two_parts past.transactions one k))
-            ∙ first_part (given_to (past.transactions ++ one) k) (given_to last k) whole),
-        kept_orders k round.moment (orders (given_second config number past round)) 0 end,
+      (command_items 0 (orders (given_second config number past round)))) k in (
+        (both_parts (given_to past.transactions k) (given_to one k)
+            (sym (ap any_abandon (two_parts past.transactions one k)) ∙ parts.0)).0,
+        kept_orders k round.moment (orders (given_second config number past round)) 0
+            (both_parts mine [] parts.1).0,
       )
 
   pub all_kept : (rounds : List Round) (number : ℕ) (past : Past)

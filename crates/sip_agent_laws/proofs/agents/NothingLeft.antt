@@ -3,7 +3,7 @@ use Rattle.std.proofs.Common.{◌≡◌, inl, inr, ℕ, suc, ◌+◌, Bool, true
 use Rattle.std.specs.Prelude.{◌&&◌, not, Option, None, Some, count_by, is_none, is_some}
 use Rattle.std.specs.List.{AllByRecursion, list_any}
 use Rattle.std.specs.Map.{lookup, remove_entry, values_of}
-use Rattle.std.proofs.lemmas.Bool.{false≢true}
+use Rattle.std.proofs.lemmas.Bool.{false≢true, and_from}
 use Rattle.std.proofs.lemmas.List.Sums.{sum_by-cons}
 use Rattle.sip_message.specs.Key.{key_cmp}
 use Rattle.sip_message.specs.declared.id.Id.{Id}
@@ -271,15 +271,12 @@ any_among test (y ∷ xs) x (inr later) is =
     by_bool (test y) (λ hit. ap (λ b. b || list_any test xs) hit)
     (λ miss. ap (λ b. b || list_any test xs) miss ∙ any_among test xs x later is)
 
-both_true : (a b : Bool) → a ≡ true → b ≡ true → (a && b) ≡ true
-both_true a b one other = ap (λ c. c && b) one ∙ other
-
 peer_waits : (call : Option Call) (key : Key) (id : Id) → HoldsOfPeer call key id
     → call_waits.waits (OfPeer id) call ≡ true
 peer_waits call key id holds =
     any_among (λ held. has_id id held && lacks_final held) (requests_held call) holds.held
     (found_among (has_id id) (requests_held call) holds.held holds.found)
-    (both_true (has_id id holds.held) (lacks_final holds.held)
+    (and_from (has_id id holds.held) (lacks_final holds.held)
     (found_passes (has_id id) (requests_held call) holds.held holds.found)
     (ap is_none holds.unanswered))
 
@@ -306,7 +303,7 @@ invite_waits : (call : Option Call) (key : Key) (id : Id) → HoldsInvite call k
     → call_waits.waits (OurInvite id) call ≡ true
 invite_waits call key id holds =
     looked_up id (side_held call).clients holds.client holds.found
-    (both_true (is_invite_kind holds.client.kind) (is_none holds.client.removal) holds.invites
+    (and_from (is_invite_kind holds.client.kind) (is_none holds.client.removal) holds.invites
     (ap is_none holds.unanswered))
 
 -- what waits for the user belongs to a call in which something waits

@@ -3,7 +3,7 @@ use Rattle.std.proofs.Common.{◌≡◌, ◌⊎◌, inl, inr, ⊎_elim, ℕ, suc
 use Rattle.std.specs.Prelude.{Option, None, Some, count_by, filter}
 use Rattle.std.specs.BTreeMap.{is_at}
 use Rattle.std.specs.List.{AllByRecursion, flat_map}
-use Rattle.std.proofs.lemmas.Bool.{false≢true}
+use Rattle.std.proofs.lemmas.Bool.{false≢true, and_parts}
 use Rattle.std.proofs.lemmas.Grind.{common_steps}
 use Rattle.std.proofs.lemmas.List.{map-append}
 use Rattle.sip_message.specs.Key.{key_cmp, keys_total}
@@ -319,10 +319,6 @@ module _ (config : Config) (number : ℕ) (past : Past) (round : Round) (rounds 
   from_kind kind.Failed id q (inl here) outcome = inl here.0
   from_kind kind.Failed id q (inr there) outcome = inr there
 
-  both_true : (a b : Bool) → (a && b) ≡ true → (a ≡ true) × (b ≡ true)
-  both_true true b is = (refl, is)
-  both_true false b is = absurd (false≢true is)
-
   own_key : (q : Key) → Among said (x, q) ⊎ Among requested x → q ≡ k
   own_key q (inl here) =
       only_key (said ++ starts_from config number past (round ∷ rounds)) fair.once x q k
@@ -338,7 +334,7 @@ module _ (config : Config) (number : ℕ) (past : Past) (round : Round) (rounds 
   each_mine [] from = tt
   each_mine (out.Up up ∷ outs) from = (
     λ is.
-        let parts = both_true (is_id x up.id) (is_outcome up.kind) is in
+        let parts = and_parts (is_id x up.id) (is_outcome up.kind) is in
         let same : x ≡ up.id = id_exact x up.id parts.0 in
         let key_is : up.key ≡ k =
         own_key up.key (subst (λ i. Among said (i, up.key) ⊎ Among requested i) (sym same)

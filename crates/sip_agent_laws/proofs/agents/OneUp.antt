@@ -6,7 +6,7 @@ use Rattle.std.specs.BTreeMap.{is_at}
 use Rattle.std.specs.Ordering.{is_eq}
 use Rattle.std.specs.List.Sorted.{IsStrictlySortedBy}
 use Rattle.std.specs.List.{AllByRecursion, flat_map}
-use Rattle.std.proofs.lemmas.Bool.{false≢true}
+use Rattle.std.proofs.lemmas.Bool.{false≢true, and_parts, and_right, and_left}
 use Rattle.std.proofs.lemmas.List.Sums.{sum_by-append, sum_by-cons}
 use Rattle.sip_message.specs.declared.id.Id.{Id}
 use Rattle.sip_message.specs.declared.key.Key.{Key}
@@ -102,18 +102,6 @@ module _ (k : Key) (client : role_of k ≡ role.Client) (x : Id) where
 
   -- ---- one input
 
-  both_false : (a b : Bool) → b ≡ false → (a && b) ≡ false
-  both_false true b is = is
-  both_false false b is = refl
-
-  first_false : (a b : Bool) → a ≡ false → (a && b) ≡ false
-  first_false true b is = absurd (false≢true (sym is))
-  first_false false b is = refl
-
-  second_true : (a b : Bool) → (a && b) ≡ true → b ≡ true
-  second_true true b is = is
-  second_true false b is = absurd (false≢true is)
-
   not_held : (own : Id) (its : UpKind) → KindIsOf its ((life : Life) × (None ≡ Some life)
       × (own ≡ life.context.id)) → is_outcome its ≡ false
   not_held own (kind.Request request reply_to) of = refl
@@ -126,8 +114,8 @@ module _ (k : Key) (client : role_of k ≡ role.Client) (x : Id) where
       → AllByRecursion (λ o. mine o ≡ false) outs
   none_held [] all = tt
   none_held (out.Up up ∷ outs) all = (
-    both_false (is_at (key_cmp k) up.key) _
-        (both_false (is_id x up.id) _ (not_held up.id up.kind (all.0).1)),
+    and_right (is_at (key_cmp k) up.key) _
+        (and_right (is_id x up.id) _ (not_held up.id up.kind (all.0).1)),
     none_held outs all.1,
   )
   none_held (out.Send key to bytes ∷ outs) all = (refl, none_held outs all.1)
@@ -138,8 +126,8 @@ module _ (k : Key) (client : role_of k ≡ role.Client) (x : Id) where
       → AllByRecursion (IsNamed k id call_id) outs → AllByRecursion (λ o. mine o ≡ false) outs
   none_named id call_id [] miss all = tt
   none_named id call_id (out.Up up ∷ outs) miss all = (
-    both_false (is_at (key_cmp k) up.key) _
-        (first_false (is_id x up.id) _ (ap (is_id x) (all.0).1 ∙ miss)),
+    and_right (is_at (key_cmp k) up.key) _
+        (and_left (is_id x up.id) _ (ap (is_id x) (all.0).1 ∙ miss)),
     none_named id call_id outs miss all.1,
   )
   none_named id call_id (out.Send key to bytes ∷ outs) miss all =
@@ -151,7 +139,7 @@ module _ (k : Key) (client : role_of k ≡ role.Client) (x : Id) where
       → AllByRecursion (λ o. mine o ≡ true → is_up is_outcome o ≡ true) outs
   outcomes_among [] = tt
   outcomes_among (out.Up up ∷ outs) = (
-    λ is. second_true (is_id x up.id) _ (second_true (is_at (key_cmp k) up.key) _ is),
+    λ is. (and_parts (is_id x up.id) _ (and_parts (is_at (key_cmp k) up.key) _ is).1).1,
     outcomes_among outs,
   )
   outcomes_among (out.Send key to bytes ∷ outs) =
@@ -234,7 +222,7 @@ module _ (k : Key) (client : role_of k ≡ role.Client) (x : Id) where
       → AllByRecursion (UpIsOf q held) outs → AllByRecursion (λ o. mine o ≡ false) outs
   none_other q held [] miss all = tt
   none_other q held (out.Up up ∷ outs) miss all = (
-    first_false (is_at (key_cmp k) up.key) _ (ap (is_at (key_cmp k)) (all.0).0 ∙ miss),
+    and_left (is_at (key_cmp k) up.key) _ (ap (is_at (key_cmp k)) (all.0).0 ∙ miss),
     none_other q held outs miss all.1,
   )
   none_other q held (out.Send key to bytes ∷ outs) miss all =

@@ -1,8 +1,9 @@
 -- After rounds without events each call is at rest, and so is each transaction.
-use Rattle.std.proofs.Common.{◌≡◌, ◌⊎◌, inl, inr, ⊎_elim, ℕ, suc, ◌+◌, ◌*◌, ◌≤◌, Bool, true, false, ◌||◌, List, [], ◌∷◌, ◌++◌, length, refl, sym, ap, ◌∙◌, append-nil, append_assoc, subst}
+use Rattle.std.proofs.Common.{◌≡◌, ◌⊎◌, inl, inr, ⊎_elim, ℕ, suc, ◌+◌, ◌*◌, ◌≤◌, true, false, ◌||◌, List, [], ◌∷◌, ◌++◌, length, refl, sym, ap, ◌∙◌, append-nil, append_assoc, subst}
+use Rattle.std.proofs.lemmas.List.Folds.{list_any-append}
 use Rattle.std.specs.Prelude.{Option, None, Some, is_none, nat_le}
 use Rattle.std.specs.List.{AllByRecursion, list_any}
-use Rattle.std.proofs.lemmas.Bool.{false≢true, leb-true}
+use Rattle.std.proofs.lemmas.Bool.{false≢true, leb-true, or_left, or_right}
 use Rattle.std.proofs.lemmas.Grind.{flat_map-append}
 use Rattle.sip_message.specs.Key.{key_cmp}
 use Rattle.sip_message.specs.declared.id.Id.{Id}
@@ -56,21 +57,6 @@ use Rattle.sip_agent_laws.proofs.agents.ServedFrom.{IsEarly}
 use Rattle.sip_agent_laws.proofs.agents.ServerLives.{Shuts, ends_answered, shut_on, waits_answered}
 
 -- ---- lists
-
-any_left : {X : Type 0} (p : X → Bool) (xs ys : List X) → list_any p xs ≡ true
-    → list_any p (xs ++ ys) ≡ true
-any_left p [] ys is = absurd (false≢true is)
-any_left p (x ∷ xs) ys is =
-    by_bool (p x) (λ hit. ap (λ b. b || list_any p (xs ++ ys)) hit)
-    (λ miss. ap (λ b. b || list_any p (xs ++ ys)) miss
-    ∙ any_left p xs ys (sym (ap (λ b. b || list_any p xs) miss) ∙ is))
-
-any_right : {X : Type 0} (p : X → Bool) (xs ys : List X) → list_any p ys ≡ true
-    → list_any p (xs ++ ys) ≡ true
-any_right p [] ys is = is
-any_right p (x ∷ xs) ys is =
-    by_bool (p x) (λ hit. ap (λ b. b || list_any p (xs ++ ys)) hit)
-    (λ miss. ap (λ b. b || list_any p (xs ++ ys)) miss ∙ any_right p xs ys is)
 
 pub all_goes : {X : Type 0} {P Q : X → Type 0} → ((x : X) → P x → Q x) → (xs : List X)
     → AllByRecursion P xs → AllByRecursion Q xs
@@ -162,9 +148,9 @@ module _ (config : Config) where
     unfolding idle_next
     reached_now number past round none late q idle = record {
       idle = idle_next number past round none q idle;
-      ticked = any_right (is_tick_from (moment + 64 * T1)) idle.after
+      ticked = list_any-append (is_tick_from (moment + 64 * T1)) idle.after
           (own config number past round q)
-          (ap (λ b. b || list_any (is_tick_from (moment + 64 * T1))
+          ∙ or_right (list_any (is_tick_from (moment + 64 * T1)) idle.after) _ (ap (λ b. b || list_any (is_tick_from (moment + 64 * T1))
           (inputs_of call_cmp (second_items config number past round) q)) late);
     }
 
@@ -173,8 +159,9 @@ module _ (config : Config) where
     unfolding idle_next
     reached_next number past round none q reached = record {
       idle = idle_next number past round none q reached.idle;
-      ticked = any_left (is_tick_from (moment + 64 * T1)) reached.idle.after
-          (own config number past round q) reached.ticked;
+      ticked = list_any-append (is_tick_from (moment + 64 * T1)) reached.idle.after
+          (own config number past round q)
+          ∙ or_left (list_any (is_tick_from (moment + 64 * T1)) reached.idle.after) _ reached.ticked;
     }
 
     reached_from : (rounds : List Round) (number : ℕ) (past : Past) → AreWithoutEvents rounds

@@ -5,7 +5,7 @@ use borrow.Author.Tests.{eqb-true}
 use Rattle.std.specs.Prelude.{◌==◌, not, nat_le, nat_lt, is_none, Option, None, Some, codes, option_to_list, if◌then◌else◌}
 use Rattle.std.specs.List.{AllByRecursion}
 use Rattle.std.specs.Option.{option_map_or}
-use Rattle.std.proofs.lemmas.Bool.{false≢true}
+use Rattle.std.proofs.lemmas.Bool.{false≢true, and_right}
 use Rattle.sip_message.specs.Key.{key_cmp, keys_total}
 use Rattle.sip_message.specs.declared.addr.Addr.{Addr}
 use Rattle.sip_message.specs.declared.id.Id.{Id}
@@ -156,21 +156,17 @@ Outlasts end now None = nat_le end now ≡ false
 Outlasts end now (Some Abandon) = ⊥
 Outlasts end now (Some input) = Unit {0}
 
-and_false : (b : Bool) → (b && false) ≡ false
-and_false true = refl
-and_false false = refl
-
 stays_by : (role : Role) (state : State) (end now : ℕ) (input : Option Input)
     → is_lasting role state ≡ true → Outlasts end now input
     → leaves_by role state end now input ≡ false
 stays_by InviteServer Accepted end now None lasting outlasts = outlasts
 stays_by InviteServer Accepted end now (Some (Receive id message reply_to)) lasting outlasts =
-    and_false _
+    and_right _ false refl
 stays_by InviteServer Accepted end now (Some Abandon) lasting outlasts = absurd outlasts
 stays_by InviteServer Accepted end now (Some input) lasting outlasts = refl
 stays_by Server Completed end now None lasting outlasts = outlasts
 stays_by Server Completed end now (Some (Receive id message reply_to)) lasting outlasts =
-    and_false _
+    and_right _ false refl
 stays_by Server Completed end now (Some Abandon) lasting outlasts = absurd outlasts
 stays_by Server Completed end now (Some input) lasting outlasts = refl
 stays_by role state end now input lasting outlasts = absurd (false≢true lasting)
@@ -451,10 +447,6 @@ rows_open InviteClient = refl
 rows_open Client = refl
 rows_open InviteServer = refl
 rows_open Server = refl
-
-both_true : (a b : Bool) → a ≡ true → b ≡ true → (a && b) ≡ true
-both_true true b one other = other
-both_true false b one other = one
 
 -- under this key, id and Call-ID
 abbrev KindOpens : (Key → List ℕ → Id → Type 0) → Key → Id → List ℕ → UpKind → Type 0

@@ -4,7 +4,7 @@ use Rattle.std.specs.Prelude.{Option, None, Some, codes, filter, find, is_none, 
 use Rattle.std.specs.List.{list_any}
 use Rattle.std.specs.Map.{values_of}
 use Rattle.std.specs.Option.{option_map_or}
-use Rattle.std.proofs.lemmas.Bool.{false≢true, true≢false}
+use Rattle.std.proofs.lemmas.Bool.{false≢true, or_parts}
 use Rattle.std.proofs.lemmas.List.Folds.{list_any-append}
 use Rattle.sip_message.specs.declared.addr.Addr.{Addr}
 use Rattle.sip_message.specs.declared.id.Id.{Id}
@@ -211,10 +211,6 @@ module _ (call : Call) (up : AnUp) (request : Message) (reply_to : Addr) (tag : 
       (λ prack. rack_fine noted up.call_id name held.created_by prack request.rack)
       (λ no_prack. user_fine noted name no_cancel no_prack))
 
-  or_parts : (x y : Bool) → (x || y) ≡ false → y ≡ false
-  or_parts true y e = absurd (true≢false e)
-  or_parts false y e = e
-
   fine : (state : State) (now : ℕ) → IsFine (request_received state up.call_id arrival now)
   unfolding request_received
   fine state now =
@@ -232,7 +228,7 @@ module _ (call : Call) (up : AnUp) (request : Message) (reply_to : Addr) (tag : 
       (λ g. or_fine (request_in_dialog state up.call_id name arrival) (no_such_call state arrival)
       (inside_fine state name no_cancel) (none_fine state) (dialog_at name state.dialogs))
       (λ g. if_fine (is_bye request || is_prack request) _ _ (λ h. none_fine state)
-      (λ h. user_fine state name no_cancel (or_parts (is_bye request) (is_prack request) h))))))
+      (λ h. user_fine state name no_cancel (or_parts (is_bye request) (is_prack request) h).1)))))
 
 -- ---- a whole call
 

@@ -4,7 +4,7 @@ use Rattle.std.specs.Prelude.{Option, None, Some, filter, flat_map, is_none}
 use Rattle.std.specs.List.{list_any}
 use Rattle.std.specs.Map.{values_of}
 use Rattle.std.specs.Option.{option_map_or}
-use Rattle.std.proofs.lemmas.Bool.{false≢true, true≢false}
+use Rattle.std.proofs.lemmas.Bool.{false≢true, true≢false, and_right}
 use Rattle.std.proofs.lemmas.Grind.{common_steps}
 use Rattle.std.proofs.lemmas.List.Folds.{list_any-append}
 use Rattle.keyed_machine.proofs.Ordered.{by_bool}
@@ -81,10 +81,6 @@ or_false : (b : Bool) → (b || false) ≡ b
 or_false true = refl
 or_false false = refl
 
-and_false : (b : Bool) → (b && false) ≡ false
-and_false true = refl
-and_false false = refl
-
 and_true : (b : Bool) → (b && true) ≡ b
 and_true true = refl
 and_true false = refl
@@ -159,14 +155,14 @@ module _ (now : ℕ) (id : Id) where
       by_bool (is_none success.over && nat_le success.end now)
       (λ e. rw e (or_false (is_id id held.id) ∙ sym (and_true (is_id id held.id))))
       (λ e. by_bool (is_none success.over && nat_le success.retransmission.due now)
-      (λ f. rw (e, f) (sym (and_false (is_id id held.id))))
-      (λ f. rw (e, f) (sym (and_false (is_id id held.id)))))
+      (λ f. rw (e, f) (sym (and_right (is_id id held.id) false refl)))
+      (λ f. rw (e, f) (sym (and_right (is_id id held.id) false refl))))
 
   ack_told : (held : HeldRequest) (o : Option Success)
       → list_any (tells_no_ack id) (option_map_or (success_at now held) o (None, [])).1
       ≡ (is_id id held.id
       && option_map_or (λ success. is_none success.over && nat_le success.end now) o false)
-  ack_told held None = sym (and_false (is_id id held.id))
+  ack_told held None = sym (and_right (is_id id held.id) false refl)
   ack_told held (Some success) = success_ack held success
 
   ack_untold : (held : HeldRequest)
@@ -202,11 +198,11 @@ module _ (now : ℕ) (id : Id) where
       → list_any (tells_no_prack id) (provisionals_tick now held).1
       ≡ (is_id id held.id && lacks_prack now held)
   prack_told held =
-      by_bool held.ledger.closed (λ e. rw e (sym (and_false (is_id id held.id))))
+      by_bool held.ledger.closed (λ e. rw e (sym (and_right (is_id id held.id) false refl)))
       (λ e. by_bool (list_any (is_late now) held.ledger.waiting)
       (λ f. rw (e, f) (or_false (is_id id held.id) ∙ sym (and_true (is_id id held.id))))
       (λ f. rw (e, f) (repeats_silent (tells_no_prack id) (λ id held response. refl) held (due_again now held)
-      ∙ sym (and_false (is_id id held.id)))))
+      ∙ sym (and_right (is_id id held.id) false refl))))
 
   request_prack : (held : HeldRequest)
       → list_any (tells_no_prack id) (tick_outs now held)

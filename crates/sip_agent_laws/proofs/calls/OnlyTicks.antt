@@ -1,6 +1,7 @@
 -- Only a tick tells that no ACK or no PRACK came, and only the report of a transaction that it
 -- timed out or couldn't send.
 use Rattle.std.proofs.Common.{◌≡◌, ℕ, Bool, true, false, ◌&&◌, ◌||◌, cond, List, [], ◌∷◌, refl, sym, subst}
+use Rattle.std.proofs.lemmas.Bool.{or_parts}
 use Rattle.std.specs.Prelude.{Option, None, Some, find, reverse, nat_le, not, is_none, if◌then◌else◌}
 use Rattle.std.specs.List.{AllByRecursion, list_any}
 use Rattle.std.specs.Option.{option_map_or}
@@ -206,15 +207,11 @@ module _ (id : Id) where
     failed = λ call_id request. none_lost (is_id id request);
   }
 
-  first_of : (a b : Bool) → (a || b) ≡ false → a ≡ false
-  first_of true b is = is
-  first_of false b is = refl
-
   none_tells : (outs : List CallOut) → AllByRecursion (Silent id false) outs
       → list_any (λ out. tells_no_ack id out || tells_no_prack id out) outs ≡ false
   none_tells [] all = refl
   none_tells (one ∷ outs) all = λ i.
-      first_of (tells_no_ack id one || tells_no_prack id one) _ all.0 i
+      (or_parts (tells_no_ack id one || tells_no_prack id one) _ all.0).0 i
       || none_tells outs all.1 i
 
 pub only_ticks_tell : OnlyTicksTell

@@ -4,7 +4,7 @@ use Rattle.std.specs.Prelude.{Option, None, Some, fold, is_none, is_some, if◌t
 use Rattle.std.specs.List.{list_any}
 use Rattle.std.specs.Map.{remove_entry, set_value}
 use Rattle.std.specs.Option.{option_map, option_map_or}
-use Rattle.std.proofs.lemmas.Bool.{false≢true}
+use Rattle.std.proofs.lemmas.Bool.{false≢true, and_parts}
 use Rattle.sip_message.specs.declared.id.Id.{Id}
 use Rattle.sip_message.specs.declared.message.Message.{Message}
 use Rattle.sip_message.specs.Party.{tag_of}
@@ -42,10 +42,6 @@ use Rattle.sip_agent_laws.proofs.calls.Ended.{gone_at}
 
 -- ---- the outcome
 
-pub both_true : (x y : Bool) → (x && y) ≡ true → (x ≡ true) × (y ≡ true)
-both_true true y e = (refl, e)
-both_true false y e = absurd (false≢true e)
-
 first_told : (b : Bool) (rest : Bool) → b ≡ true → (b || rest) ≡ true
 first_told b rest is = ap (λ c. c || rest) is
 
@@ -66,7 +62,7 @@ pub last_closes : (event : Event) (id : Id) (call_id : List ℕ) (response : Mes
     × (((response_to event id call_id response side status client).0).clients
     ≡ remove_entry (is_id id) side.clients)
 last_closes event id call_id response side status client has last =
-    let final = (both_true (is_final status)
+    let final = (and_parts (is_final status)
     (not (is_invite_kind client.kind && is_success status)) last).0 in
     let told : (is_id id id && option_map_or (λ came. came == status) (status_of response.start)
     false) ≡ true =

@@ -1,5 +1,6 @@
 -- A rejection of the user to a request without a final response isn't refused, and goes out.
 use Rattle.std.proofs.Common.{◌≡◌, ◌≤◌, ℕ, ◌+◌, ◌*◌, Bool, true, false, not, ◌&&◌, ◌||◌, cond, List, [], ◌∷◌, refl, sym, ap, subst, ◌∙◌, arith}
+use Rattle.std.proofs.lemmas.Bool.{and_right}
 use Rattle.std.specs.Prelude.{None, Some, find, is_none, is_some, nat_le, if◌then◌else◌}
 use Rattle.std.specs.List.{list_any}
 use Rattle.std.specs.Option.{option_map}
@@ -54,10 +55,6 @@ rejecting status from = grind (arith, nat_tests)
 for_user : (status : ℕ) → 300 ≤ status → status ≤ 699 → is_user_status status ≡ true
 for_user status from to = grind (arith, nat_tests)
 
-and_false : (b : Bool) → (b && false) ≡ false
-and_false true = refl
-and_false false = refl
-
 -- it isn't sent reliably
 pub not_reliable : (held : HeldRequest) (status : ℕ) (reliability : Reliability) → 300 ≤ status
     → is_sent_reliably held status reliability ≡ false
@@ -65,14 +62,15 @@ not_reliable held status reliability from =
     let wanted = is_reliable reliability || requires_100rel held.request in
     ap (λ b. (is_invite held.request && b && supports_100rel held.request) && wanted)
     (not_provisional status from)
-    ∙ ap (λ b. (b && supports_100rel held.request) && wanted) (and_false (is_invite held.request))
+    ∙ ap (λ b. (b && supports_100rel held.request) && wanted)
+    (and_right (is_invite held.request) false refl)
 
 -- it neither makes nor confirms a dialog
 pub no_dialog : (held : HeldRequest) (status : ℕ) → 300 ≤ status
     → makes_or_confirms_dialog held status ≡ false
 no_dialog held status from =
     (λ i. is_invite held.request && (not_provisional status from i || not_success status from i))
-    ∙ and_false (is_invite held.request)
+    ∙ and_right (is_invite held.request) false refl
 
 pub makes_none : (held : HeldRequest) (status : ℕ) → 300 ≤ status
     → makes_dialog held status ≡ false

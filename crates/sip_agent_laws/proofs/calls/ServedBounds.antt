@@ -4,7 +4,7 @@ use Rattle.std.proofs.Common.{◌≡◌, ◌≤◌, ℕ, ◌+◌, Bool, true, fa
 use Rattle.std.specs.Prelude.{Option, None, Some, find, filter, fold, is_none, is_some, nat_le, nat_lt, reverse, if◌then◌else◌}
 use Rattle.std.specs.List.{AllByRecursion, list_any}
 use Rattle.std.specs.Option.{option_map, option_map_or, option_and_then}
-use Rattle.std.proofs.lemmas.Bool.{true≢false}
+use Rattle.std.proofs.lemmas.Bool.{true≢false, or_parts}
 use Rattle.std.proofs.lemmas.Grind.{common_steps}
 use Rattle.keyed_machine.proofs.Ordered.{by_bool}
 use Rattle.sip_message.specs.declared.id.Id.{Id}
@@ -384,17 +384,13 @@ none_late m now late p by not_late = by_resending p.retransmission not_late
     by_resending None e = refl
     by_resending (Some r) e = absurd (true≢false (sym (past p.sent by) ∙ e))
 
-neither : (x y : Bool) → (x || y) ≡ false → (x ≡ false) × (y ≡ false)
-neither true y e = absurd cc
-neither false y e = (refl, e)
-
 all_still : (m now : ℕ) → m + LIFETIME ≤ now → (waiting : List Provisional)
     → AllByRecursion (λ (p : Provisional). p.sent ≤ m) waiting
     → list_any (is_late now) waiting ≡ false
     → first_moment (map (after_repeat now) waiting) ≡ None
 all_still m now late [] by none = refl
 all_still m now late (p ∷ waiting) by none =
-    let parts = neither (is_late now p) (list_any (is_late now) waiting) none in
+    let parts = or_parts (is_late now p) (list_any (is_late now) waiting) none in
     ap (λ o.
     first_moment (after_repeat now (record p { retransmission = o })
     ∷ map (after_repeat now) waiting))

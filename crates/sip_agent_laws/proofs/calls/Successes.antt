@@ -4,7 +4,7 @@ use Rattle.std.specs.Prelude.{Option, None, Some, fold, is_some, length, nat_le,
 use Rattle.std.specs.List.{list_any}
 use Rattle.std.specs.Map.{lookup, remove_entry, set_value}
 use Rattle.std.specs.Option.{option_map_or}
-use Rattle.std.proofs.lemmas.Bool.{false≢true}
+use Rattle.std.proofs.lemmas.Bool.{false≢true, and_parts}
 use Rattle.std.proofs.lemmas.List.Folds.{list_any-append}
 use Rattle.indexmap.specs.IndexMap.{insert_entry}
 use Rattle.sip_message.specs.Content.{Content, content_of_body}
@@ -54,11 +54,7 @@ name_is (asks.InDialog reference) client response = refl
 name_is asks.OutOfDialog client response = refl
 
 success_final : (status : ℕ) → is_success status ≡ true → is_final status ≡ true
-success_final status success = both_true (nat_le 200 status) _ success
-  where
-    both_true : (a b : Bool) → (a && b) ≡ true → a ≡ true
-    both_true true b is = refl
-    both_true false b is = absurd (false≢true is)
+success_final status success = (and_parts (nat_le 200 status) _ success).0
 
 -- ---- the ACK
 

@@ -4,7 +4,7 @@ use Rattle.std.proofs.Common.{◌≡◌, ◌≤◌, ℕ, Bool, true, false, not,
 use Rattle.std.specs.Prelude.{Option, None, Some, filter, find, is_none, is_some}
 use Rattle.std.specs.List.{list_any}
 use Rattle.std.specs.Map.{remove_entry}
-use Rattle.std.proofs.lemmas.Bool.{false≢true, true≢false}
+use Rattle.std.proofs.lemmas.Bool.{false≢true, true≢false, and_right}
 use Rattle.indexmap.specs.IndexMap.{insert_entry}
 use Rattle.sip_message.specs.declared.id.Id.{Id}
 use Rattle.sip_message.specs.declared.message.Message.{Message}
@@ -205,13 +205,9 @@ closed_open : (id : Id) (state : State) (event : Id) (r : Answer) (now : ℕ)
     (held one : HeldRequest) → 300 ≤ r.status
     → PassesOnlyIf (is_open id one) (is_open id (change state event r now held one))
 closed_open id state event r now held one from = λ passes.
-    absurd (false≢true (sym (and_false (has_id id (change state event r now held one)))
+    absurd (false≢true (sym (and_right (has_id id (change state event r now held one)) false refl)
     ∙ sym (ap (λ o. has_id id (change state event r now held one) && is_none o)
     (final_at event r (answer_to state.local held r) now one from)) ∙ passes))
-  where
-    and_false : (b : Bool) → (b && false) ≡ false
-    and_false true = refl
-    and_false false = refl
 
 rejected_dialogs : (event : Id) (held : HeldRequest) (status : ℕ) (response : Message)
     (dialogs : Dialogs) → 300 ≤ status

@@ -5,7 +5,7 @@ use Rattle.std.specs.List.{AllByRecursion}
 use Rattle.std.specs.Map.{lookup, remove_entry, set_value, values_of}
 use Rattle.std.specs.Option.{option_and_then, option_map_or}
 use Rattle.std.specs.Str.{bytes_eq}
-use Rattle.std.proofs.lemmas.Bool.{false≢true}
+use Rattle.std.proofs.lemmas.Bool.{false≢true, and_parts}
 use Rattle.std.proofs.lemmas.List.Elements.{filter_map-append}
 use Rattle.indexmap.specs.IndexMap.{insert_entry}
 use Rattle.keyed_machine.proofs.Ordered.{by_bool}
@@ -269,11 +269,6 @@ same_status : (line : StartLine) → rules.status_of line ≡ status_of line
 same_status (start_line.Request uri) = refl
 same_status (start_line.Response status reason) = refl
 
-both_true : (x y : Bool) → (x && y) ≡ true → (x ≡ true) × (y ≡ true)
-both_true true true e = (refl, refl)
-both_true true false e = absurd (false≢true e)
-both_true false y e = absurd (false≢true e)
-
 module _ (event : Event) (id : Id) (call_id : List ℕ) (response : Message) (side : Side) where
   -- the response is a 2xx to a held INVITE
   record Brings (after : Dialogs) (ack : SentAck) : Type 0 where
@@ -293,7 +288,7 @@ module _ (event : Event) (id : Id) (call_id : List ℕ) (response : Message) (si
       → Responds (response_to event id call_id response side status client)
   final_gives status status_is client held final =
       ⊎_elim (λ none. inl (same ∙ none))
-      (λ one. let of = both_true (rule.is_invite_kind client.kind) (is_success status) one.2.0 in
+      (λ one. let of = and_parts (rule.is_invite_kind client.kind) (is_success status) one.2.0 in
       inr (
         one.0,
         same ∙ one.1,

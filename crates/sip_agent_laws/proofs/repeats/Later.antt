@@ -1,5 +1,6 @@
 -- After a tick nothing goes out again at that moment.
 use Rattle.std.proofs.Common.{◌≡◌, ◌≤◌, ℕ, ◌+◌, ◌*◌, Bool, true, false, not, ◌&&◌, ◌||◌, ◌==◌, cond, List, [], ◌∷◌, ◌++◌, map, min, nat_le, nat_lt, refl, sym, ap, subst, ◌∙◌, arith, pow_pos}
+use Rattle.std.proofs.lemmas.Bool.{and_right}
 use Rattle.std.specs.Prelude.{Option, None, Some, IfSome, filter, fold, is_none, length}
 use Rattle.std.specs.List.{AllByRecursion, list_any}
 use Rattle.std.specs.Option.{option_map, option_map_or, option_to_list}
@@ -54,10 +55,6 @@ all_paced (story ∷ stories) = (story_paced story, all_paced stories)
 
 -- ---- one request
 
-and_false : (b : Bool) → (b && false) ≡ false
-and_false true = refl
-and_false false = refl
-
 module _ (now : ℕ) (held : HeldRequest) where
   later : (n : ℕ) → 1 ≤ n → nat_le (now + min (2 * n) T2) now ≡ false
   later n above = grind (arith, above)
@@ -82,7 +79,7 @@ module _ (now : ℕ) (held : HeldRequest) where
         };
       }) (ap (λ b. is_none success.over && nat_lt now success.end && b)
       (later success.retransmission.interval paced)
-      ∙ and_false (is_none success.over && nat_lt now success.end))))
+      ∙ and_right (is_none success.over && nat_lt now success.end) false refl)))
       (λ f. rw (e, f) (not_again success (not_due now held success f))))
 
   -- ---- the reliable provisional responses

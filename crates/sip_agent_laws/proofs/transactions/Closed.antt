@@ -2,7 +2,7 @@
 use Rattle.std.proofs.Common.{arith, ◌≡◌, ℕ, ◌+◌, Bool, true, false, ◌&&◌, ◌||◌, List, [], ◌∷◌, ◌++◌, refl, sym, ◌∙◌, ap, subst, codes}
 use Rattle.std.specs.Prelude.{Option, None, Some, cond, is_none, nat_le, not, ◌==◌, slice_get, unwrap_or, option_map}
 use Rattle.std.specs.Option.{option_map_or}
-use Rattle.std.proofs.lemmas.Bool.{false≢true}
+use Rattle.std.proofs.lemmas.Bool.{false≢true, or_parts, and_from}
 use borrow.Author.Tests.{eqb-true}
 use Rattle.std.proofs.lemmas.List.Sums.{sum_by-append}
 use Rattle.sip_message.specs.declared.key.Key.{Key}
@@ -49,16 +49,8 @@ use Rattle.sip_agent_laws.proofs.transactions.Told.{Counts, tells, ups-row}
 use Rattle.sip_agent_laws.proofs.transactions.Ticks.{is_end}
 use Rattle.sip_agent_laws.proofs.transactions.Timed.{always_within, can_be, enters, entered_passes, implied, is_timed, reached}
 
-neither : (a b : Bool) → (a || b) ≡ false → (a ≡ false) × (b ≡ false)
-neither true b e = absurd (false≢true (sym e))
-neither false b e = (refl, e)
-
 none_more : {a b : ℕ} → a ≡ 0 → b ≡ 0 → a + b ≡ 0
 none_more one other = omega arith
-
-both_true : (a b : Bool) → a ≡ true → b ≡ true → (a && b) ≡ true
-both_true true b one other = other
-both_true false b one other = one
 
 -- ---- what leaves a state
 
@@ -246,7 +238,7 @@ next_left : (key : Key) (at : State) (life : Life) (timed : Timed Input)
 next_left key at life timed left =
     let role = role_of key in
     next_in (Left role at) key life timed left (λ trigger is next into.
-    both_true (awaits_ack role at) (is_confirmed next) (and-left (awaits_ack role at) _ left)
+    and_from (awaits_ack role at) (is_confirmed next) (and-left (awaits_ack role at) _ left)
     (entered_passes is_confirmed (Some life.state) next (rule role life.state trigger)
     (implied (is_confirmed life.state) _ (and-right (awaits_ack role at) _ left)
     (passes confirmed_on refl role life.state trigger)) into))
@@ -516,8 +508,8 @@ no_timeouts key client end held [] within asked early = refl
 no_timeouts key client end None (timed ∷ inputs) within asked early = absurd (false≢true within.0)
 no_timeouts key client end (Some life) (timed ∷ inputs) within asked early =
     let after = stepped key (Some life) timed in
-    let parts = neither (is_none timed.input && nat_le end timed.moment) (has_tick_from end inputs)
-    early in
+    let parts = or_parts (is_none timed.input && nat_le end timed.moment)
+    (has_tick_from end inputs) early in
     sum_by-append (λ out. cond (is_up is_timeout out) 1 0) after.1
     (outputs_from step_machine key after.0 inputs)
     ∙ none_more (no_timeout key client life timed end asked parts.0)
