@@ -26,6 +26,7 @@ pub mod DialogDebts
 pub mod CommandDebts
 pub mod AskedDebts
 pub mod ReplyDebts
+pub mod OverEnds
 pub mod Removals
 pub mod Results
 pub mod SentIn

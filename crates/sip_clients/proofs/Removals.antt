@@ -9,7 +9,7 @@ use Rattle.sip_timers.specs.Earlier.{earlier}
 use Rattle.sip_held_dialogs.specs.Ids.{is_id}
 use Rattle.sip_clients.specs.declared.client.Client.{Client}
 use Rattle.sip_clients.specs.Client.{Clients, client_at, with_client, without_client}
-use Rattle.sip_clients.specs.ClientMap.{has_removal}
+use Rattle.sip_clients.specs.Steps.ClientMap.{has_removal}
 use Rattle.sip_clients.specs.Tick.{next_removal}
 
 pub earlier_none : (due : Option ℕ) → earlier due None ≡ due

@@ -3,7 +3,6 @@ pub mod Answers
 pub mod Cancel
 pub mod Client
 pub mod ClientLife
-pub mod ClientMap
 pub mod ClientStory
 pub mod ClientTelling
 pub mod ClientRules
@@ -23,5 +22,6 @@ pub mod Replied
 pub mod ReceivedResponse
 pub mod Rules
 pub mod SendOutcome
+pub mod Steps
 pub mod Tick
 pub mod RefusedCommands

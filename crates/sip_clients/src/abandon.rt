@@ -67,7 +67,7 @@ pub(crate) fn abandon_dialog(
         record { dialogs = dialogs.old.entries; clients = clients }) }
 {
     let name = name_in(alloc, &command.local_tag, &command.remote_tag)?;
-    if !dialogs.contains_key(&name) {
+    if !dialogs.contains(&name) {
         return refused(
             alloc,
             event.id,

@@ -9,7 +9,7 @@ ghost use Rattle.sip_held_dialogs.specs.Ids.{is_id};
 ghost use Rattle.sip_held_dialogs.specs.Requests.{is_final};
 ghost use Rattle.sip_clients.specs.Cancel.{asked, cancel_freed, after_response};
 ghost use Rattle.sip_clients.specs.Client as spec;
-ghost use Rattle.sip_clients.specs.ClientMap.{has_removal};
+ghost use Rattle.sip_clients.specs.Steps.ClientMap.{has_removal};
 ghost use Rattle.sip_clients.specs.Clients.{acked_with};
 ghost use Rattle.sip_clients.specs.Replied.{reply_taken};
 ghost use Rattle.sip_clients.specs.Tick.{is_over, next_removal};
@@ -49,7 +49,7 @@ impl Model for ClientMap {
 
     ghost Value = { Ordered Id Client };
 
-    ghost use Rattle.sip_clients.specs.ClientMap.{IsDueAtFirst};
+    ghost use Rattle.sip_clients.specs.Steps.ClientMap.{IsDueAtFirst};
 
     ghost view = { λ clients. clients.all };
 

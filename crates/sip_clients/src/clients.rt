@@ -1,7 +1,7 @@
 //! The client requests of one Call-ID.
 
 ghost use Rattle.std.specs.Prelude.{◌≡◌, ◌≤◌, ◌==◌, ◌^◌, [], IfOk, OnErr, OnOk, length};
-ghost use Rattle.sip_held_dialogs.specs.Dialogs.{Dialogs};
+ghost use Rattle.sip_held_dialogs.specs.Dialogs as held;
 ghost use Rattle.sip_clients.specs.Clients as spec;
 ghost use Rattle.sip_clients.specs.Rules.Abandon.{abandon_dialog_command, abandon_request_command};
 ghost use Rattle.sip_clients.specs.Rules.Ends as ends;
@@ -98,8 +98,10 @@ impl Clients {
             return Ok(Vec::new(self.alloc));
         }
         let mut requests = self.take().into_list()?;
-        let outs = over_notices(self.alloc, dialogs, &requests, now)?;
-        drop_dialogs(dialogs, &requests, now);
+        let mut list = dialogs.take().into_list()?;
+        let outs = over_notices(self.alloc, &list, &requests, now)?;
+        drop_dialogs(self.alloc, &mut list, &requests, now)?;
+        *dialogs = Dialogs::of_list(self.alloc, list)?;
         drop_clients(&mut requests, now);
         self.requests = ClientMap::of_list(self.alloc, requests)?;
         Ok(outs)
@@ -215,7 +217,7 @@ impl Clients {
     /// The user cancels an INVITE: at once if a provisional response to it came, otherwise when the
     /// first one comes (RFC 3261, section 9.1).
     pub fn cancel(&mut self, event: Event, command: &Cancel) -> Result<Vec<CallOut>, AllocError>
-        ensures taken { IfOk result (λ outs. (dialogs : Dialogs)
+        ensures taken { IfOk result (λ outs. (dialogs : held.Dialogs)
             → (record { dialogs = dialogs; clients = self.new }, outs.items)
             ≡ requests.cancel_command event command.now
             record { dialogs = dialogs; clients = self.old }) }

@@ -101,7 +101,7 @@ fn request_at(
         ≡ (served_at name.now (spec.request_in_held event method content) (Refused NoSuchDialog)
         dialogs.old.entries).0) }
 {
-    let Some(held) = dialogs.get_mut(name) else {
+    let Some(held) = dialogs.all.get_mut(name) else {
         return Ok(SendOutcome::Refused(Refusal::NoSuchDialog));
     };
     request_in(alloc, held, event, method, content)
@@ -117,6 +117,7 @@ fn request_in(
     ensures outcome { IfOk result (λ outcome. outcome
         ≡ (spec.request_in_held event method content held.old).1) }
     ensures held { OnOk result (held.new ≡ (spec.request_in_held event method content held.old).0) }
+    ensures same_invite { held.new.invite ≡ held.old.invite }
 {
     if is_bad_in(held, &method) {
         return Ok(SendOutcome::Refused(Refusal::BadMethod));

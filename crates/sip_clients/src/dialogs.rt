@@ -57,7 +57,8 @@ pub(crate) fn accept(
     kind: &RequestKind,
     response: &Message,
 ) -> Result<(), AllocError>
-    ensures { OnOk result (held.new ≡ spec.accepted_in kind.now response.now held.old) }
+    ensures held { OnOk result (held.new ≡ spec.accepted_in kind.now response.now held.old) }
+    ensures same_invite { held.new.invite ≡ held.old.invite }
 {
     match kind {
         RequestKind::InitialInvite => confirm_dialog(held, response),
@@ -67,7 +68,8 @@ pub(crate) fn accept(
 }
 
 fn refresh_dialog(held: &mut HeldDialog, response: &Message) -> Result<(), AllocError>
-    ensures { OnOk result (held.new ≡ spec.refreshed response.now held.old) }
+    ensures held { OnOk result (held.new ≡ spec.refreshed response.now held.old) }
+    ensures same_invite { held.new.invite ≡ held.old.invite }
 {
     let Some(contact) = response.contacts.first() else {
         return Ok(());
@@ -98,7 +100,7 @@ pub(crate) fn pay_at(
     ensures dialogs { OnOk result (dialogs.new.entries
         ≡ (spec.paid_at name.now event pending content dialogs.old.entries).0) }
 {
-    let Some(held) = dialogs.get_mut(name) else {
+    let Some(held) = dialogs.all.get_mut(name) else {
         return Ok(SendOutcome::Waits);
     };
     send_pending(alloc, held, event, pending, content)

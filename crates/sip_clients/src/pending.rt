@@ -31,6 +31,7 @@ pub(crate) fn add_pending(
     ensures outcome { IfOk result (λ outcome. outcome
         ≡ (spec.kept_pending event pending offer held.old).1) }
     ensures held { OnOk result (held.new ≡ (spec.kept_pending event pending offer held.old).0) }
+    ensures same_invite { held.new.invite ≡ held.old.invite }
 {
     let outcome = discharge(alloc, held, event, pending, offer)?;
     keep_unless_sent(held, pending, &outcome)?;
@@ -42,7 +43,8 @@ fn keep_unless_sent(
     pending: PendingRequest,
     outcome: &SendOutcome,
 ) -> Result<(), AllocError>
-    ensures { OnOk result (held.new ≡ spec.kept_unless_sent pending outcome.now held.old) }
+    ensures held { OnOk result (held.new ≡ spec.kept_unless_sent pending outcome.now held.old) }
+    ensures same_invite { held.new.invite ≡ held.old.invite }
 {
     match outcome {
         SendOutcome::Sent(_) => Ok(()),
@@ -62,6 +64,7 @@ pub(crate) fn send_pending(
     ensures outcome { IfOk result (λ outcome. outcome
         ≡ (spec.sent_pending event pending content held.old).1) }
     ensures held { OnOk result (held.new ≡ (spec.sent_pending event pending content held.old).0) }
+    ensures same_invite { held.new.invite ≡ held.old.invite }
 {
     let outcome = discharge(alloc, held, event, pending, Some(content))?;
     drop_if_sent(alloc, held, pending, &outcome);

@@ -38,7 +38,7 @@ pub(crate) fn take_reply(
     if is_last(&client.kind, reply.status.code()) {
         return finish(alloc, client, dialogs, reply);
     }
-    match dialogs.get_mut(&reply.name) {
+    match dialogs.all.get_mut(&reply.name) {
         Some(held) => take_in(alloc, client, held, reply),
         None => take_new(alloc, client, dialogs, reply),
     }
@@ -52,9 +52,10 @@ fn take_in(
     reply: &ReceivedResponse,
 ) -> Result<(Vec<CallOut>, ClientChange), AllocError>
     requires { reply.now.event.moment ≤ 2 ^ 62 }
-    ensures { IfOk result (λ told. (client.new, held.new, told.0.items, told.1)
+    ensures told { IfOk result (λ told. (client.new, held.new, told.0.items, told.1)
         ≡ spec.in_place held.old
         (spec.replied_in client.old (Some held.old) reply.now)) }
+    ensures same_invite { held.new.invite ≡ held.old.invite }
 {
     match reply_case(client, Some(&*held), reply) {
         ReplyCase::Repeated => repeat(alloc, client, reply),
@@ -163,8 +164,9 @@ fn reliable(
     reply: &ReceivedResponse,
     rseq: u32,
 ) -> Result<(Vec<CallOut>, ClientChange), AllocError>
-    ensures { IfOk result (λ told. (client.new, Some held.new, told.0.items, told.1)
+    ensures told { IfOk result (λ told. (client.new, Some held.new, told.0.items, told.1)
         ≡ spec.reliable rseq client.old held.old reply.now) }
+    ensures same_invite { held.new.invite ≡ held.old.invite }
 {
     let outcome = owe_prack(alloc, client, held, reply, rseq)?;
     hear_again(client, rseq);
@@ -198,6 +200,7 @@ fn owe_prack(
         ≡ (spec.prack_owed rseq client.now held.old reply.now).1) }
     ensures held { OnOk result (held.new
         ≡ (spec.prack_owed rseq client.now held.old reply.now).0) }
+    ensures same_invite { held.new.invite ≡ held.old.invite }
 {
     hear_first(held, &client.kind, rseq);
     let pending = PendingRequest::Prack {
@@ -253,8 +256,9 @@ fn accepted(
     reply: &ReceivedResponse,
 ) -> Result<(Vec<CallOut>, ClientChange), AllocError>
     requires { reply.now.event.moment ≤ 2 ^ 62 }
-    ensures { IfOk result (λ told. (client.new, Some held.new, told.0.items, told.1)
+    ensures told { IfOk result (λ told. (client.new, Some held.new, told.0.items, told.1)
         ≡ spec.accepted_by_ack client.old held.old reply.now) }
+    ensures same_invite { held.new.invite ≡ held.old.invite }
 {
     let outcome = owe_ack(alloc, client, held, reply)?;
     let (outs, ack) = told_of_ack(alloc, reply, outcome)?;
@@ -273,6 +277,7 @@ fn owe_ack(
     ensures outcome { IfOk result (λ outcome. outcome
         ≡ (spec.ack_owed client.now held.old reply.now).1) }
     ensures held { OnOk result (held.new ≡ (spec.ack_owed client.now held.old reply.now).0) }
+    ensures same_invite { held.new.invite ≡ held.old.invite }
 {
     let pending = PendingRequest::Ack {
         invite: client.id,

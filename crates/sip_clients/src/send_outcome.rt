@@ -68,6 +68,7 @@ pub(crate) fn request(
     ensures outcome { IfOk result (λ outcome. outcome
         ≡ (spec.requested event method rack content held.old).1) }
     ensures held { OnOk result (held.new ≡ (spec.requested event method rack content held.old).0) }
+    ensures same_invite { held.new.invite ≡ held.old.invite }
 {
     let to = held.dialog.hop(held.address);
     let created_by = held.created_by;
@@ -128,6 +129,7 @@ fn prack(
         ≡ (spec.prack_requested event rseq number content held.old).1) }
     ensures held { OnOk result (held.new ≡ (spec.prack_requested event rseq number content
         held.old).0) }
+    ensures same_invite { held.new.invite ≡ held.old.invite }
 {
     let rack = RAck {
         rseq,
@@ -170,6 +172,7 @@ pub(crate) fn discharge(
     ensures outcome { IfOk result (λ outcome. outcome
         ≡ (spec.discharged event pending offer held.old).1) }
     ensures held { OnOk result (held.new ≡ (spec.discharged event pending offer held.old).0) }
+    ensures same_invite { held.new.invite ≡ held.old.invite }
 {
     let Some(content) = offer else {
         return Ok(SendOutcome::Waits);

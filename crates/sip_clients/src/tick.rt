@@ -1,14 +1,15 @@
 //! A tick: the INVITEs that are removed, and the end of their dialogs that are still early.
 
-ghost use Rattle.std.specs.Prelude.{◌≡◌, IfOk, not};
-ghost use Rattle.std.specs.List.{list_any};
+ghost use Rattle.std.specs.Prelude.{◌≡◌, IfOk, OnOk, filter, not};
 ghost use Rattle.std.specs.Map.{values_of};
+ghost use Rattle.sip_clients.specs.Steps.Over.{is_early_of_any, over_ids};
 ghost use Rattle.sip_clients.specs.Tick as spec;
 
 use crate::client::Client;
 use crate::client_map::ClientList;
 use sip_held_dialogs::dialogs::{early_notices, is_early_of};
-use sip_held_dialogs::{Dialogs, HeldDialog};
+use sip_held_dialogs::{DialogList, HeldDialog};
+use sip_message::Id;
 use sip_timers::earlier;
 use sip_user::CallOut;
 use std::alloc::{AllocError, Global};
@@ -23,7 +24,7 @@ fn is_over(client: &Client, now: u64) -> bool
 /// The notices of the dialogs that end.
 pub(crate) fn over_notices(
     alloc: Global,
-    dialogs: &Dialogs,
+    dialogs: &DialogList,
     clients: &ClientList,
     now: u64,
 ) -> Result<Vec<CallOut>, AllocError>
@@ -39,7 +40,7 @@ pub(crate) fn over_notices(
 
 fn notices_of(
     alloc: Global,
-    dialogs: &Dialogs,
+    dialogs: &DialogList,
     client: &Client,
     now: u64,
 ) -> Result<Vec<CallOut>, AllocError>
@@ -54,23 +55,51 @@ fn notices_of(
 }
 
 /// Removes the dialogs that are still early when their INVITE is removed.
-pub(crate) fn drop_dialogs(dialogs: &mut Dialogs, clients: &ClientList, now: u64)
-    ensures { dialogs.new.entries ≡ spec.dialogs_left now dialogs.old.entries clients.now.entries }
+pub(crate) fn drop_dialogs(
+    alloc: Global,
+    dialogs: &mut DialogList,
+    clients: &ClientList,
+    now: u64,
+) -> Result<(), AllocError>
+    ensures { OnOk result (dialogs.new.entries
+        ≡ spec.dialogs_left now dialogs.old.entries clients.now.entries) }
+{
+    let over = over_ids(alloc, clients, now)?;
+    drop_early_of(dialogs, over.as_slice());
+    Ok(())
+}
+
+// The INVITEs that are due to be removed.
+fn over_ids(alloc: Global, clients: &ClientList, now: u64) -> Result<Vec<Id>, AllocError>
+    ensures { IfOk result (λ over. over.items
+        ≡ over_ids now (values_of clients.now.entries)) }
+{
+    let mut over = Vec::new(alloc);
+    for client in clients.values().as_slice() {
+        if is_over(client, now) {
+            over.push(client.id)?;
+        }
+    }
+    Ok(over)
+}
+
+// Removes the early dialogs that these INVITEs made.
+fn drop_early_of(dialogs: &mut DialogList, invites: &[Id])
+    ensures { dialogs.new.entries ≡ filter (λ entry. not
+        (is_early_of_any invites.now entry.1)) dialogs.old.entries }
 {
     dialogs.retain(
         |_name, held| -> bool
-            ensures kept { result ≡ not (spec.ends_early_at now clients.entry.now.entries
-                held.old) }
+            ensures kept { result ≡ not (is_early_of_any invites.entry.now held.old) }
             ensures same { held.new ≡ held.old }
-        { !ends_at(clients, now, held) },
+        { !is_early_of_any(held, invites) },
     );
 }
 
-fn ends_at(clients: &ClientList, now: u64, held: &HeldDialog) -> bool
-    ensures { result ≡ spec.ends_early_at now clients.now.entries held.now }
+fn is_early_of_any(held: &HeldDialog, invites: &[Id]) -> bool
+    ensures { result ≡ is_early_of_any invites.now held.now }
 {
-    clients.values().as_slice().iter().any(|client| is_over(client, now)
-        && is_early_of(held, client.id))
+    invites.iter().any(|invite| is_early_of(held, *invite))
 }
 
 /// Removes the INVITEs that are due.

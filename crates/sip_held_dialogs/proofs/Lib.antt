@@ -1,3 +1,4 @@
+pub mod Counts
 pub mod Dues
 pub mod Each
 pub mod EndedDialogs

@@ -1,3 +1,4 @@
+pub mod Counted
 pub mod Dialogs
 pub mod Ids
 pub mod Lives

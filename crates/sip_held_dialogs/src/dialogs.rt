@@ -1,21 +1,18 @@
 //! What happens to the held dialogs.
 
 ghost use Rattle.std.specs.Prelude.{◌≡◌, IfOk, OnOk, not};
+ghost use Rattle.sip_held_dialogs.specs.Counted.{IsMadeBy};
 ghost use Rattle.sip_held_dialogs.specs.Dialogs as spec;
+ghost use Rattle.sip_held_dialogs.specs.declared.dialog_map.MadeBy.TheVariants.{One};
 
+use crate::dialog_map::{DialogList, Dialogs, MadeBy};
 use crate::held_dialog::{DialogId, DialogReference, HeldDialog};
 use crate::request::{has_to_tag, is_invite};
-use indexmap::IndexMap;
-use seeded_hash::HashSeed;
 use sip_dialog::{DialogFault, DialogState, Endpoint};
 use sip_message::{Id, Message};
 use sip_text::Text;
 use sip_user::{CallOut, Notice};
 use std::alloc::{AllocError, Global};
-
-/// The held dialogs by name, in the order in which they were made. A peer chooses tags, so the hash
-/// of a name has a secret seed.
-pub type Dialogs = IndexMap<DialogId, HeldDialog, HashSeed>;
 
 /// Whether a CSeq number is above those that came in the dialog before.
 pub fn takes(held: &HeldDialog, number: u32) -> bool
@@ -72,14 +69,15 @@ pub fn visit(dialogs: &mut Dialogs, name: &DialogId, request: &Message) -> Resul
     ensures { OnOk result (dialogs.new.entries
         ≡ spec.dialog_changed name.now (spec.visited request.now) dialogs.old.entries) }
 {
-    let Some(held) = dialogs.get_mut(name) else {
+    let Some(held) = dialogs.all.get_mut(name) else {
         return Ok(());
     };
     visit_dialog(held, request)
 }
 
 fn visit_dialog(held: &mut HeldDialog, request: &Message) -> Result<(), AllocError>
-    ensures { OnOk result (held.new ≡ spec.visited request.now held.old) }
+    ensures held { OnOk result (held.new ≡ spec.visited request.now held.old) }
+    ensures same_invite { held.new.invite ≡ held.old.invite }
 {
     number(held, request.cseq.number);
     refresh(held, request)
@@ -93,8 +91,9 @@ fn number(held: &mut HeldDialog, cseq: u32)
 
 // A re-INVITE with a Contact refreshes the target.
 fn refresh(held: &mut HeldDialog, request: &Message) -> Result<(), AllocError>
-    ensures { OnOk result (held.new
+    ensures held { OnOk result (held.new
         ≡ spec.lived (spec.refreshes request.now held.old) held.old) }
+    ensures same_invite { held.new.invite ≡ held.old.invite }
 {
     if !is_invite(request) {
         return Ok(());
@@ -112,7 +111,7 @@ pub fn confirm(dialogs: &mut Dialogs, name: &DialogId, response: &Message) -> Re
     ensures { OnOk result (dialogs.new.entries
         ≡ spec.dialog_changed name.now (spec.confirmed response.now) dialogs.old.entries) }
 {
-    let Some(held) = dialogs.get_mut(name) else {
+    let Some(held) = dialogs.all.get_mut(name) else {
         return Ok(());
     };
     confirm_dialog(held, response)
@@ -120,7 +119,8 @@ pub fn confirm(dialogs: &mut Dialogs, name: &DialogId, response: &Message) -> Re
 
 /// A 2xx confirms this dialog.
 pub fn confirm_dialog(held: &mut HeldDialog, response: &Message) -> Result<(), AllocError>
-    ensures { OnOk result (held.new ≡ spec.confirmed response.now held.old) }
+    ensures held { OnOk result (held.new ≡ spec.confirmed response.now held.old) }
+    ensures same_invite { held.new.invite ≡ held.old.invite }
 {
     match held.dialog.confirm(response) {
         Ok(()) | Err(DialogFault::Ended) => Ok(()),
@@ -138,7 +138,7 @@ pub fn end(
         ≡ spec.ended_at name.now dialogs.old.entries) }
 {
     let mut outs = Vec::new(alloc);
-    if let Some(held) = dialogs.shift_remove(name) {
+    if let Some(held) = dialogs.remove(name) {
         outs.push(ended_notice(alloc, &held)?)?;
     }
     Ok(outs)
@@ -153,15 +153,53 @@ pub fn end_early(
     ensures { IfOk result (λ outs. (dialogs.new.entries, outs.items)
         ≡ spec.early_ended invite dialogs.old.entries) }
 {
-    let outs = early_notices(alloc, dialogs, invite)?;
-    drop_early(dialogs, invite);
+    match dialogs.made_by(invite)? {
+        MadeBy::Nothing => Ok(Vec::new(alloc)),
+        MadeBy::One(name) => end_one_early(alloc, dialogs, &name, invite),
+        MadeBy::Several => end_each_early(alloc, dialogs, invite),
+    }
+}
+
+// The same for the only dialog that an INVITE made.
+fn end_one_early(
+    alloc: Global,
+    dialogs: &mut Dialogs,
+    name: &DialogId,
+    invite: Id,
+) -> Result<Vec<CallOut>, AllocError>
+    requires { IsMadeBy invite dialogs.old.entries (One name.now) }
+    ensures { IfOk result (λ outs. (dialogs.new.entries, outs.items)
+        ≡ spec.early_ended invite dialogs.old.entries) }
+{
+    let Some(held) = dialogs.get(name) else {
+        return Ok(Vec::new(alloc));
+    };
+    if !is_early_of(held, invite) {
+        return Ok(Vec::new(alloc));
+    }
+    end(alloc, dialogs, name)
+}
+
+// The same with a look at all dialogs.
+fn end_each_early(
+    alloc: Global,
+    dialogs: &mut Dialogs,
+    invite: Id,
+) -> Result<Vec<CallOut>, AllocError>
+    ensures { IfOk result (λ outs. (dialogs.new.entries, outs.items)
+        ≡ spec.early_ended invite dialogs.old.entries) }
+{
+    let mut list = dialogs.take().into_list()?;
+    let outs = early_notices(alloc, &list, invite)?;
+    drop_early(&mut list, invite);
+    *dialogs = Dialogs::of_list(alloc, list)?;
     Ok(outs)
 }
 
 /// The notices of the end of the early dialogs of an INVITE.
 pub fn early_notices(
     alloc: Global,
-    dialogs: &Dialogs,
+    dialogs: &DialogList,
     invite: Id,
 ) -> Result<Vec<CallOut>, AllocError>
     ensures { IfOk result (λ outs. outs.items ≡ (spec.early_ended invite dialogs.now.entries).1) }
@@ -175,7 +213,7 @@ pub fn early_notices(
     Ok(outs)
 }
 
-fn drop_early(dialogs: &mut Dialogs, invite: Id)
+fn drop_early(dialogs: &mut DialogList, invite: Id)
     ensures { dialogs.new.entries ≡ (spec.early_ended invite dialogs.old.entries).0 }
 {
     dialogs.retain(

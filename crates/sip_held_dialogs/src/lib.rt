@@ -2,6 +2,7 @@
 //! says.
 #![tactic(auto)]
 
+mod dialog_map;
 pub mod dialogs;
 mod held_dialog;
 mod laws;
@@ -9,7 +10,7 @@ mod pending_request;
 pub mod request;
 mod same_dialogs;
 
-pub use dialogs::Dialogs;
+pub use dialog_map::{DialogList, Dialogs};
 pub use held_dialog::{DialogId, DialogReference, HeldDialog};
 pub use laws::a_dialog_stands_for_its_story;
 pub use pending_request::PendingRequest;

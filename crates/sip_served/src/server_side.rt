@@ -27,13 +27,12 @@ use crate::outputs::{
     bad_extension, merged_request, no_such_dialog, notice_of_request, ok, out_of_order,
 };
 use crate::respond::{answer_dialogs, answer_to, refusal_for};
-use indexmap::IndexMap;
 use seeded_hash::HashSeed;
 use sip_held_dialogs::dialogs::{dialog_of_request, end, end_early, visit};
 use sip_held_dialogs::request::{dialog_id_of, has_to_tag, is_bye, is_cancel, is_prack, own_tag};
 use sip_held_dialogs::{DialogId, DialogReference, Dialogs};
 use sip_message::{Addr, CallId, Id, Message, Token};
-use sip_same::{SameValue, are_same_maps};
+use sip_same::SameValue;
 use sip_text::Boxed;
 use sip_transactions::{Command, Up, UpKind};
 use sip_user::outputs::{joined, one, refused, tell};
@@ -68,7 +67,7 @@ impl SameValue for ServerSide {
     fn is_same(&self, other: &ServerSide) -> bool {
         self.local.is_same(&other.local)
             && self.requests.is_same(&other.requests)
-            && are_same_maps(&self.dialogs, &other.dialogs)
+            && self.dialogs.is_same(&other.dialogs)
     }
 }
 
@@ -86,7 +85,7 @@ impl ServerSide {
             alloc,
             local,
             requests: HeldRequests::new(alloc),
-            dialogs: IndexMap::with_hasher(alloc, hash_seed),
+            dialogs: Dialogs::new(alloc, hash_seed),
         }
     }
 
@@ -124,7 +123,7 @@ impl ServerSide {
     pub(crate) fn clear(&mut self, local: Addr)
         ensures { self.new ≡ empty_at local }
     {
-        *self = ServerSide::new(self.alloc, local, *self.dialogs.hasher());
+        *self = ServerSide::new(self.alloc, local, self.dialogs.hash_seed());
     }
 
     /// Takes an item of the event of this id, at the moment `now` in ms. `tag` is the To tag for

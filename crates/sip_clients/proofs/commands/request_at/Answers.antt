@@ -1,12 +1,23 @@
 -- `request_at`: only the held dialog of the name changes, by the request in it.
-use Rattle.std.proofs.Common.{◌≡◌, ap, ◌∙◌, rules}
-use Rattle.sip_clients.specs.Commands.{request_in_held}
+use Rattle.std.proofs.Common.{ap, sym}
+use Rattle.std.specs.Map.{set_value}
+use Rattle.sip_held_dialogs.specs.Dialogs.{is_dialog_id}
+use Rattle.sip_held_dialogs.proofs.Counts.{kept_counted}
 use Rattle.sip_clients.proofs.Results.{on_ok}
 use Rattle.sip_clients.proofs.commands.request_at.Goals as goal
 
+pub invariant_of-dialogs-2 : goal.invariant_of-dialogs-2
+invariant_of-dialogs-2 c =
+    kept_counted c.dialogs.inside.invites c.args.name.now c.in-Some.held.now
+    c.request_in.new.held c.dialogs.inside.all.entries (sym c.in-Some.ensures.value)
+    c.request_in.ensures.same_invite c.dialogs.invariant
+
+pub returns-clause-outcome : goal.returns-clause-outcome
+returns-clause-outcome c =
+    rw (← c.dialogs.view_is, ← c.in-Some.ensures.value) c.request_in.ensures.outcome
+
 pub returns-clause-dialogs : goal.returns-clause-dialogs
 returns-clause-dialogs c =
-    on_ok c.request_in.result (c.request_in.new.held
-    ≡ (request_in_held c.args.event c.args.method c.args.content c.in-Some.held.now).0) _
-    c.request_in.ensures.held
-    (λ is. ap (λ held. (c.get_mut.follows.lender held).entries) is ∙ search rules)
+    rw (← c.dialogs.view_is, ← c.in-Some.ensures.value)
+    (on_ok c.request_in.result _ _ c.request_in.ensures.held
+    (ap (λ held. set_value (is_dialog_id c.args.name.now) c.dialogs.inside.all.entries held)))

@@ -4,6 +4,8 @@ use Rattle.std.specs.Prelude.{Option, None, Some, unwrap_or, if◌then◌else◌
 use Rattle.std.specs.Map.{lookup, set_value}
 use Rattle.std.proofs.lemmas.Map.Steps.{set_value_same}
 use Rattle.indexmap.specs.IndexMap.{insert_entry}
+use Rattle.ordered_map.specs.OrderedMap.{Ordered}
+use Rattle.sip_held_dialogs.proofs.Counts.{kept_counted}
 use Rattle.sip_held_dialogs.specs.declared.held_dialog.DialogId.{DialogId}
 use Rattle.sip_held_dialogs.specs.declared.held_dialog.HeldDialog.{HeldDialog}
 use Rattle.sip_held_dialogs.specs.Dialogs.{dialog_at, is_dialog_id, Dialogs}
@@ -33,6 +35,12 @@ put : (name : DialogId) (held : HeldDialog) (after : Option HeldDialog) (dialogs
 put name held None dialogs is = set_value_same (is_dialog_id name) dialogs held is
 put name held (Some after) dialogs is = put_there is_dialog_id name dialogs after held is
 
+pub invariant_of-dialogs : goal.invariant_of-dialogs
+invariant_of-dialogs c =
+    kept_counted c.dialogs.inside.invites c.args.reply.now.name c.in-Some.held.now
+    c.take_in.new.held c.dialogs.inside.all.entries (sym c.in-Some.ensures.value)
+    c.take_in.ensures.same_invite c.dialogs.invariant
+
 pub returns-in-Some : goal.returns-in-Some
 returns-in-Some c =
     let reply = c.args.reply.now in
@@ -40,14 +48,35 @@ returns-in-Some c =
     let dialogs : Dialogs = c.args.dialogs.now.entries in
     let held = c.in-Some.held.now in
     let last : is_last client.kind reply.status ≡ false = search rules in
-    let found : dialog_at reply.name dialogs ≡ Some held = search rules in
-    let lent : (c.get_mut.follows.lender c.take_in.new.held).entries
-    ≡ set_value (is_dialog_id reply.name) dialogs c.take_in.new.held = search rules in
+    let found : dialog_at reply.name dialogs ≡ Some held =
+    ap (λ (all : Ordered DialogId HeldDialog). dialog_at reply.name all.entries)
+    (sym c.dialogs.view_is) ∙ sym c.in-Some.ensures.value in
+    let lent : set_value (is_dialog_id reply.name) c.dialogs.inside.all.entries c.take_in.new.held
+    ≡ set_value (is_dialog_id reply.name) dialogs c.take_in.new.held =
+    ap (λ (all : Ordered DialogId HeldDialog).
+    set_value (is_dialog_id reply.name) all.entries c.take_in.new.held) c.dialogs.view_is in
     let after = (replied_in client (Some held) reply).1 in
-    if_ok c.take_in.result _ _ c.take_in.ensures (λ told is.
+    if_ok c.take_in.result _ _ c.take_in.ensures.told (λ told is.
     let kept = lent ∙ (λ i. set_value (is_dialog_id reply.name) dialogs (is i).1)
     ∙ put reply.name held after dialogs found in
     ◌∙◌ {b = after_dialog reply.name dialogs (replied_in client (Some held) reply)}
     (λ i. ((is i).0, kept i, (is i).2, (is i).3))
     (λ i. if sym last i then request_over client dialogs reply
+    else after_dialog reply.name dialogs (replied_in client (sym found i) reply)))
+
+pub returns-in-None : goal.returns-in-None
+returns-in-None c =
+    let reply = c.args.reply.now in
+    let client = c.args.client.now in
+    let dialogs : Dialogs = c.args.dialogs.now.entries in
+    let last : is_last client.kind reply.status ≡ false = search rules in
+    let none : dialog_at reply.name c.dialogs.inside.all.entries ≡ None = search rules in
+    let found : dialog_at reply.name dialogs ≡ None =
+    ap (λ (all : Ordered DialogId HeldDialog). dialog_at reply.name all.entries)
+    (sym c.dialogs.view_is) ∙ none in
+    if_ok c.take_new.result _ _ c.take_new.ensures (λ told is.
+    is
+    ∙ ap (λ (all : Ordered DialogId HeldDialog).
+    after_dialog reply.name all.entries (replied_in client None reply)) c.dialogs.view_is
+    ∙ (λ i. if sym last i then request_over client dialogs reply
     else after_dialog reply.name dialogs (replied_in client (sym found i) reply)))

@@ -8,7 +8,7 @@ use Rattle.sip_served.proofs.respond.make_dialog.Goals as goal
 
 pub returns : goal.returns
 returns c =
-    c.in_ok-insert.ensures.entries
+    c.in_ok-insert.ensures
     ∙ (λ i. insert_entry is_dialog_id c.args.dialogs.now.entries
     ((c.in_ok-name.ensures
     ∙ ap (λ request. dialog_id_of request c.args.held.now.tag) c.get.ensures) i)
