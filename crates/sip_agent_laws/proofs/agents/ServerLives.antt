@@ -171,17 +171,12 @@ stays_by Server Completed end now (Some Abandon) lasting outlasts = absurd outla
 stays_by Server Completed end now (Some input) lasting outlasts = refl
 stays_by role state end now input lasting outlasts = absurd (false≢true lasting)
 
-lasting_lasts : (role : Role) (state : State)
-    → (not (is_lasting role state) || (can_be role state && lasts state)) ≡ true
-lasting_lasts InviteServer Accepted = refl
-lasting_lasts Server Completed = refl
-lasting_lasts role state = refl
-
-lasting_closed : (role : Role) (state : State)
-    → (not (is_lasting role state) || not (is_open role state)) ≡ true
-lasting_closed InviteServer Accepted = refl
-lasting_closed Server Completed = refl
-lasting_closed role state = refl
+-- what is so of both is so after a 2xx
+by_lasting : (P : Role → State → Type 0) → P InviteServer Accepted → P Server Completed
+    → (role : Role) (state : State) → is_lasting role state ≡ true → P role state
+by_lasting P invite other InviteServer Accepted lasting = invite
+by_lasting P invite other Server Completed lasting = other
+by_lasting P invite other role state lasting = absurd (false≢true lasting)
 
 pub arrival_outlasts : (end now : ℕ) → nat_le end now ≡ false → (items : List (Item Key Input))
     → AreArrivals (timed_items now items)
@@ -197,18 +192,6 @@ arrival_outlasts end now early (item ∷ items) arrive =
     one (Answer id message) arrives = absurd arrives
     one (Failed id) arrives = tt
     one Abandon arrives = absurd arrives
-
-lasting_serves : (role : Role) (state : State)
-    → (not (is_lasting role state) || is_server role) ≡ true
-lasting_serves InviteServer Accepted = refl
-lasting_serves Server Completed = refl
-lasting_serves role state = refl
-
-lasting_ends : (role : Role) (state : State)
-    → (not (is_lasting role state) || not (waits role state)) ≡ true
-lasting_ends InviteServer Accepted = refl
-lasting_ends Server Completed = refl
-lasting_ends role state = refl
 
 as_goes : {P Q : State → Context → Type 0} → ((state : State) (context : Context)
     → P state context → Q state context) → (held : Option Life) → HeldAs P held → HeldAs Q held
@@ -296,9 +279,8 @@ module _ (k : Key) where
   never_both call_id id end None opens shuts = opens
   never_both call_id id end (Some life) opens shuts =
       let role = role_of k in
-      let closed : not (is_open role life.state) ≡ true =
-      implied (is_lasting role life.state) _ shuts.lasting (lasting_closed role life.state) in
-      false≢true (sym (ap not (and-right (is_server role) _ opens.still)) ∙ closed)
+      let closed = by_lasting (λ r s. is_open r s ≡ false) refl refl role life.state shuts.lasting in
+      false≢true (sym closed ∙ and-right (is_server role) _ opens.still)
 
   pub serves_open : (call_id : List ℕ) (id : Id) (held : Option Life) → Opens call_id id held
       → is_server (role_of k) ≡ true
@@ -308,8 +290,7 @@ module _ (k : Key) where
   pub serves_shut : (end : ℕ) (held : Option Life) → Shuts end held → is_server (role_of k) ≡ true
   serves_shut end None shuts = absurd shuts
   serves_shut end (Some life) shuts =
-      implied (is_lasting (role_of k) life.state) _ shuts.lasting
-      (lasting_serves (role_of k) life.state)
+      by_lasting (λ r s. is_server r ≡ true) refl refl (role_of k) life.state shuts.lasting
 
   -- ---- one input
 
@@ -350,7 +331,7 @@ module _ (k : Key) where
       (subst (λ b. After role life.state end b after)
       (stays_by role life.state end now input shuts.lasting outlasts)
       (step_lasts k life (record { moment = now; input = input }) end
-      (implied (is_lasting role life.state) _ shuts.lasting (lasting_lasts role life.state))
+      (by_lasting (λ r s. (can_be r s && lasts s) ≡ true) refl refl role life.state shuts.lasting)
       shuts.ends)))
 
   -- a 2xx goes out
@@ -424,8 +405,8 @@ module _ (k : Key) where
       entered_passes (waits role) (Some life.state) next (rule role life.state trigger)
       (implied (waits role life.state) _ waiting
       (early_row early_waits refl role life.state message.start trigger early is)) into))
-      (λ shut. absurd (false≢true (sym (ap not waiting)
-      ∙ implied (is_lasting role life.state) _ shut.1.lasting (lasting_ends role life.state))))
+      (λ shut. absurd (false≢true (sym (by_lasting (λ r s. waits r s ≡ false) refl refl role
+      life.state shut.1.lasting) ∙ waiting)))
       sent)
 
   pub open_then : (call_id : List ℕ) (id : Id) (items : Items) (states : States)
