@@ -115,13 +115,7 @@ module _ (k : Key) (id : Id) (commanded : asked.IsCommanded k) (of : List ℕ) w
       invite_goes k id commanded of (event_of calls event now) invited call.clients own
   first_goes calls call event now (user.Plain plain) own =
       plain_goes k id commanded of (event_of calls event now) plain call.clients own
-  first_goes calls call event now (user.Request request) own = unchanged call _ refl
-  first_goes calls call event now (user.Respond respond) own = unchanged call _ refl
-  first_goes calls call event now (user.Ack ack) own = unchanged call _ refl
-  first_goes calls call event now (user.Prack prack) own = unchanged call _ refl
-  first_goes calls call event now (user.Cancel cancel) own = unchanged call _ refl
-  first_goes calls call event now (user.AbandonRequest abandon) own = unchanged call _ refl
-  first_goes calls call event now (user.AbandonDialog abandon) own = unchanged call _ refl
+  first_goes calls call event now _ own = unchanged call _ refl
 
   command_goes : (calls : Calls) (call : Call) (event : Id) (now : ℕ) (c : UserCommand)
       → AreSidesOf of call

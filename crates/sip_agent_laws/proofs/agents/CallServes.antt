@@ -144,15 +144,8 @@ no_answer outs all id key message among =
 
 used_requests : (call : Call) (event : Event) (c : UserCommand) → IsOther c
     → requests_of (used_command call event c).0 ≡ requests_of call
-used_requests call event (user.Invite invite) other = refl
-used_requests call event (user.Plain plain) other = refl
-used_requests call event (user.Request request) other = refl
 used_requests call event (user.Respond respond) other = absurd (other respond refl)
-used_requests call event (user.Ack ack) other = refl
-used_requests call event (user.Prack prack) other = refl
-used_requests call event (user.Cancel cancel) other = refl
-used_requests call event (user.AbandonRequest abandon) other = refl
-used_requests call event (user.AbandonDialog abandon) other = refl
+used_requests call event _ other = refl
 
 command_requests : (held : Bool) (call : Call) (event : Event) (c : UserCommand) → IsOther c
     → requests_of (item_of_call held call event (User c)).0 ≡ requests_of call

@@ -263,10 +263,7 @@ module _ (config : Config) (number : ℕ) (past : Past) (round : Round) where
         among_right came (requests_among items) up.id
         (request_among items there.0 up message reply_to is
         (subst (λ (all : List (Id × Item)). Among all (there.0, Up up)) (sym items_are) there.1))
-    up_came up (kind.Ack ack) is among = tt
-    up_came up (kind.Response response) is among = tt
-    up_came up kind.Timeout is among = tt
-    up_came up kind.Failed is among = tt
+    up_came up _ is among = tt
 
     all_came : (outs : List Out) → ((o : Out) → Among outs o → Among (joined first_told.items) o)
         → AllByRecursion (RequestCame said came_now) outs

@@ -231,26 +231,18 @@ waits_open role.Client state is = absurd (by_state state is)
     by_state Completed is = false≢true is
     by_state Accepted is = false≢true is
     by_state Confirmed is = false≢true is
-waits_open role.InviteServer Calling is = absurd (false≢true is)
-waits_open role.InviteServer Trying is = absurd (false≢true is)
 waits_open role.InviteServer Proceeding is = refl
-waits_open role.InviteServer Completed is = absurd (false≢true is)
-waits_open role.InviteServer Accepted is = absurd (false≢true is)
-waits_open role.InviteServer Confirmed is = absurd (false≢true is)
 waits_open role.Server Calling is = absurd (false≢true is)
 waits_open role.Server Trying is = refl
 waits_open role.Server Proceeding is = refl
 waits_open role.Server Completed is = absurd (false≢true is)
 waits_open role.Server Accepted is = absurd (false≢true is)
 waits_open role.Server Confirmed is = absurd (false≢true is)
+waits_open role.InviteServer _ is = absurd (false≢true is)
 
 client_not : (state : State) → waits role.Client state ≡ true → ⊥
 client_not Calling is = false≢true is
-client_not Trying is = false≢true is
-client_not Proceeding is = false≢true is
-client_not Completed is = false≢true is
-client_not Accepted is = false≢true is
-client_not Confirmed is = false≢true is
+client_not _ is = false≢true is
 
 nothing_found : {X : Type 0} (x : X) → None ≡ Some x → ⊥
 nothing_found x same = absurd cc

@@ -248,9 +248,6 @@ module _ (id : Id) where
 
     up_counted : (k : UpKind) → up.kind ≡ k
         → counted outs ≤ cond (brings_outcome id (Some (event, Up up))) 1 0
-    up_counted (kind.Request request reply_to) is = by_quiet _ is (λ same. cc) (λ same. cc)
-    up_counted (kind.Ack ack) is = by_quiet _ is (λ same. cc) (λ same. cc)
-    up_counted (kind.Response response) is = by_quiet _ is (λ same. cc) (λ same. cc)
     up_counted kind.Timeout is =
         let taken = of_kind kind.Timeout is in
         let count = lost_counted call ev up (notice.Timeout up.call_id up.id)
@@ -275,6 +272,7 @@ module _ (id : Id) where
           ap counted taken,
           ap (λ (k : UpKind). cond {A = ℕ} (is_id id up.id && is_outcome k) 1 0) is,
         )
+    up_counted _ is = by_quiet _ is (λ same. cc) (λ same. cc)
 
   -- ---- a tick
 

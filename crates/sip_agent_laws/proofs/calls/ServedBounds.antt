@@ -16,7 +16,7 @@ use Rattle.sip_reliable.specs.declared.send_fault.SendFault.{SendFault}
 use Rattle.sip_reliable.specs.Provisional.{Provisional, after_repeat, given_up, is_late, is_repeated}
 use Rattle.sip_reliable.specs.Ledger.{Ledger, first_moment, next_moment, ok_unless, send_fault}
 use Rattle.sip_transactions.specs.declared.output.UpKind.{UpKind}
-use Rattle.sip_transactions.specs.declared.output.UpKind.TheVariants.{Request, Ack, Response, Timeout, Failed}
+use Rattle.sip_transactions.specs.declared.output.UpKind.TheVariants.{Request, Ack}
 use Rattle.sip_transactions.specs.declared.output.Up.{Up}
 use Rattle.sip_user.specs.declared.command.Respond.{Respond as Answer}
 use Rattle.sip_user.specs.declared.refusal.Refusal.{Refusal}
@@ -327,9 +327,7 @@ module _ (m : ℕ) where
         tag = local_tag_of request tag;
       } now (by refl) state all).all
   kind_set state tag up (Ack ack) now by all = (ack_set state up.call_id ack all).all
-  kind_set state tag up (Response response) now by all = all
-  kind_set state tag up Timeout now by all = all
-  kind_set state tag up Failed now by all = all
+  kind_set state tag up _ now by all = all
 
   pub tick_set : (state : State) (now : ℕ) → AreSet m state → AreSet m (server_tick state now).0
   unfolding server_tick
