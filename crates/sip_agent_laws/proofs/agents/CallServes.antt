@@ -277,22 +277,8 @@ item_serves calls None event (User (user.Respond respond)) now rise =
     (User (user.Respond respond)))
     (serves_same now _ []
     (λ id key message among. ⊎_elim (λ same. absurd cc) (λ none. absurd none) among))
-item_serves calls state event (User (user.Invite invite)) now rise =
-    other_serves calls state event (user.Invite invite) now (λ respond same. absurd cc)
-item_serves calls state event (User (user.Plain plain)) now rise =
-    other_serves calls state event (user.Plain plain) now (λ respond same. absurd cc)
-item_serves calls state event (User (user.Request request)) now rise =
-    other_serves calls state event (user.Request request) now (λ respond same. absurd cc)
-item_serves calls state event (User (user.Ack ack)) now rise =
-    other_serves calls state event (user.Ack ack) now (λ respond same. absurd cc)
-item_serves calls state event (User (user.Prack prack)) now rise =
-    other_serves calls state event (user.Prack prack) now (λ respond same. absurd cc)
-item_serves calls state event (User (user.Cancel cancel)) now rise =
-    other_serves calls state event (user.Cancel cancel) now (λ respond same. absurd cc)
-item_serves calls state event (User (user.AbandonRequest abandon)) now rise =
-    other_serves calls state event (user.AbandonRequest abandon) now (λ respond same. absurd cc)
-item_serves calls state event (User (user.AbandonDialog abandon)) now rise =
-    other_serves calls state event (user.AbandonDialog abandon) now (λ respond same. absurd cc)
+item_serves calls state event (User c) now rise =
+    other_serves calls state event c now (λ respond same. absurd cc)
 
 -- ---- no server transaction is given up
 

@@ -217,11 +217,7 @@ nothing_kept calls call input now inside none = λ one.
 
 waits_open : (r : Role) (state : State) → waits r state ≡ true → is_open r state ≡ true
 waits_open role.InviteClient Calling is = refl
-waits_open role.InviteClient Trying is = absurd (false≢true is)
 waits_open role.InviteClient Proceeding is = refl
-waits_open role.InviteClient Completed is = absurd (false≢true is)
-waits_open role.InviteClient Accepted is = absurd (false≢true is)
-waits_open role.InviteClient Confirmed is = absurd (false≢true is)
 waits_open role.Client state is = absurd (by_state state is)
   where
     by_state : (state : State) → waits role.Client state ≡ true → ⊥
@@ -239,6 +235,7 @@ waits_open role.Server Completed is = absurd (false≢true is)
 waits_open role.Server Accepted is = absurd (false≢true is)
 waits_open role.Server Confirmed is = absurd (false≢true is)
 waits_open role.InviteServer _ is = absurd (false≢true is)
+waits_open role.InviteClient _ is = absurd (false≢true is)
 
 client_not : (state : State) → waits role.Client state ≡ true → ⊥
 client_not Calling is = false≢true is

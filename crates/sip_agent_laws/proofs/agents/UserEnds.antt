@@ -266,13 +266,7 @@ is_ender : (one : Waiting) (c : UserCommand) → Ends one c → IsEnder c
 is_ender (OfPeer id) (user.Respond respond) ends = tt
 is_ender (OfPeer id) (user.AbandonRequest abandon) ends = tt
 is_ender (OfPeer id) (user.AbandonDialog abandon) ends = tt
-is_ender (OurInvite id) (user.Invite invite) ends = ends
-is_ender (OurInvite id) (user.Plain plain) ends = ends
-is_ender (OurInvite id) (user.Request request) ends = ends
 is_ender (OurInvite id) (user.Respond respond) ends = tt
-is_ender (OurInvite id) (user.Ack ack) ends = ends
-is_ender (OurInvite id) (user.Prack prack) ends = ends
-is_ender (OurInvite id) (user.Cancel cancel) ends = ends
 is_ender (OurInvite id) (user.AbandonRequest abandon) ends = tt
 is_ender (OurInvite id) (user.AbandonDialog abandon) ends = tt
 is_ender (InDialog name) (user.Invite invite) ends = ends
@@ -285,6 +279,7 @@ is_ender (InDialog name) (user.Cancel cancel) ends = ends
 is_ender (InDialog name) (user.AbandonRequest abandon) ends = tt
 is_ender (InDialog name) (user.AbandonDialog abandon) ends = tt
 is_ender (OfPeer id) _ ends = ends
+is_ender (OurInvite id) _ ends = ends
 
 -- each request other than an INVITE is given up by one of these commands
 abbrev AreGivenUp : List (Timed CallItem) → Clients → Type 0
