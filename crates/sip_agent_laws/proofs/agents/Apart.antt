@@ -194,10 +194,8 @@ module _ (calls : Calls) (x : Id) where
       ))
 
   few : (state : Option Call) (input : Option CallItem) (now : ℕ) → Few state input now
-  few state None now = (call_starts calls state None now).few x
-  few state (Some (event, User c)) now =
-      (call_starts calls state (Some (event, User c)) now).few x
   few state (Some (event, Up up)) now = up_few state event now up up.kind refl
+  few state input now = (call_starts calls state input now).few x
 
   -- ---- one round
 

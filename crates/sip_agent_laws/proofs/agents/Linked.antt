@@ -460,13 +460,9 @@ module _ (config : Config) (number : ℕ) (past : Past) (round : Round) where
       harmless_kind (kind.Response response) own id key from known =
           λ same. mild_status response
           (mild_so (kind.Response response) own id key (id_exact own id same) from known)
-      harmless_kind kind.Timeout own id key from known =
+      harmless_kind its own id key from known =
           by_bool (is_id own id)
-          (λ same. absurd (mild_so kind.Timeout own id key (id_exact own id same) from known))
-          (λ other. other)
-      harmless_kind kind.Failed own id key from known =
-          by_bool (is_id own id)
-          (λ same. absurd (mild_so kind.Failed own id key (id_exact own id same) from known))
+          (λ same. absurd (mild_so its own id key (id_exact own id same) from known))
           (λ other. other)
 
       abbrev Harmless : Option CallItem → Type 0

@@ -269,17 +269,12 @@ is_ender (OfPeer id) (user.AbandonDialog abandon) ends = tt
 is_ender (OurInvite id) (user.Respond respond) ends = tt
 is_ender (OurInvite id) (user.AbandonRequest abandon) ends = tt
 is_ender (OurInvite id) (user.AbandonDialog abandon) ends = tt
-is_ender (InDialog name) (user.Invite invite) ends = ends
-is_ender (InDialog name) (user.Plain plain) ends = ends
-is_ender (InDialog name) (user.Request request) ends = ends
 is_ender (InDialog name) (user.Respond respond) ends = tt
-is_ender (InDialog name) (user.Ack ack) ends = ends
-is_ender (InDialog name) (user.Prack prack) ends = ends
-is_ender (InDialog name) (user.Cancel cancel) ends = ends
 is_ender (InDialog name) (user.AbandonRequest abandon) ends = tt
 is_ender (InDialog name) (user.AbandonDialog abandon) ends = tt
 is_ender (OfPeer id) _ ends = ends
 is_ender (OurInvite id) _ ends = ends
+is_ender (InDialog name) _ ends = ends
 
 -- each request other than an INVITE is given up by one of these commands
 abbrev AreGivenUp : List (Timed CallItem) → Clients → Type 0

@@ -170,17 +170,13 @@ module _ (id : Id) where
 
   up_quiet : (call : Call) (event : Event) (up : AnUp) (k : UpKind) → (k ≡ kind.Timeout → ⊥)
       → (k ≡ kind.Failed → ⊥) → AllByRecursion Quiet (up_taken call event up k).1
-  up_quiet call event up (kind.Request request reply_to) timeout failed =
-      (others.passes_others id true).kinds call.served (made_tag event) up
-      (kind.Request request reply_to) event.moment
-  up_quiet call event up (kind.Ack ack) timeout failed =
-      (others.passes_others id true).kinds call.served (made_tag event) up (kind.Ack ack)
-      event.moment
   up_quiet call event up (kind.Response response) timeout failed =
       response_told Quiet (others.allows id true) event up.id up.call_id response (side_of call)
       (λ name status has. refl)
   up_quiet call event up kind.Timeout timeout failed = absurd (timeout refl)
   up_quiet call event up kind.Failed timeout failed = absurd (failed refl)
+  up_quiet call event up its timeout failed =
+      (others.passes_others id true).kinds call.served (made_tag event) up its event.moment
 
   -- what comes up
   lost_counted : (call : Call) (event : Event) (up : AnUp) (one : Notice) (rest : List CallOut)

@@ -28,7 +28,7 @@ use Rattle.sip_held_dialogs.proofs.Each as each
 use Rattle.sip_served.specs.declared.arrival.Arrival.{Arrival}
 use Rattle.sip_served.specs.declared.held_request.HeldRequest.{HeldRequest}
 use Rattle.sip_served.specs.declared.held_request.Success.{Success}
-use Rattle.sip_served.specs.RequestLife.{RequestHappening, EndsSuccess, Finishes, GivesUpProvisionals, MakesDialog, RepeatsProvisionals, RepeatsSuccess, SendsReliably, TakesPrack, request_happened, went_on}
+use Rattle.sip_served.specs.RequestLife.{RequestHappening, Finishes, GivesUpProvisionals, MakesDialog, RepeatsProvisionals, SendsReliably, TakesPrack, request_happened, went_on}
 use Rattle.sip_served.specs.Respond.{after_answer, answers, by_refusal, by_request, is_sent_reliably, makes_dialog, refusal_for, respond_taken, sends_as, with_dialog}
 use Rattle.sip_served.specs.Rules.Arrivals.{ack_for, ack_received, after_487, after_ack, after_prack, after_request, awaits, cancel_for, is_above, is_merged, is_named_by, is_same_branch, no_such_call, prack_for, prack_received, request_for_user, request_in_dialog, request_received, server_received}
 use Rattle.sip_served.specs.Rules.Ticks.{provisionals_tick, server_tick, success_at, success_tick}
@@ -110,13 +110,7 @@ happened_set m held (Finishes response status now) by set =
       success = λ lacks. absurd (some_end (now + LIFETIME) lacks);
       sent = set.sent;
     }
-happened_set m held (RepeatsSuccess now) by set =
-    record {
-      removal = set.removal;
-      success = no_more _ held set.success;
-      sent = set.sent;
-    }
-happened_set m held (EndsSuccess end) by set =
+happened_set m held _ by set =
     record {
       removal = set.removal;
       success = no_more _ held set.success;
