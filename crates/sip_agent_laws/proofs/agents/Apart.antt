@@ -81,10 +81,7 @@ module _ (x : Id) where
   kind_parts id own (kind.Request request reply_to) is =
       let same : id ≡ own = cc in
       omega (arith, ap (λ i. of_one (Some i)) same)
-  kind_parts id own (kind.Ack ack) is = omega arith
-  kind_parts id own (kind.Response response) is = omega arith
-  kind_parts id own kind.Timeout is = omega arith
-  kind_parts id own kind.Failed is = omega arith
+  kind_parts id own _ is = omega arith
 
   item_parts : (id : Id) (item : Item) → IsItemBy id item
       → of_one (starting (Some (id, item))) + of_one (request_brought (Some (id, item)))
@@ -189,19 +186,7 @@ module _ (calls : Calls) (x : Id) where
       ≤ weight (is_id x) (starting_kind event k) + how_many x (waiting call.clients)) (sym is)
       (request_few call event now up (kind.Ack ack)
       (silent_kind call event now up (kind.Ack ack)) refl refl)
-  up_few state event now up (kind.Response response) is =
-      other_few state event now up (omega (
-        arith,
-        ap (λ k. weight (is_id x) (starting_kind event k)) is,
-        ap (λ k. weight (is_id x) (event_of_kind event k)) is,
-      ))
-  up_few state event now up kind.Timeout is =
-      other_few state event now up (omega (
-        arith,
-        ap (λ k. weight (is_id x) (starting_kind event k)) is,
-        ap (λ k. weight (is_id x) (event_of_kind event k)) is,
-      ))
-  up_few state event now up kind.Failed is =
+  up_few state event now up _ is =
       other_few state event now up (omega (
         arith,
         ap (λ k. weight (is_id x) (starting_kind event k)) is,
@@ -209,10 +194,8 @@ module _ (calls : Calls) (x : Id) where
       ))
 
   few : (state : Option Call) (input : Option CallItem) (now : ℕ) → Few state input now
-  few state None now = (call_starts calls state None now).few x
-  few state (Some (event, User c)) now =
-      (call_starts calls state (Some (event, User c)) now).few x
   few state (Some (event, Up up)) now = up_few state event now up up.kind refl
+  few state input now = (call_starts calls state input now).few x
 
   -- ---- one round
 

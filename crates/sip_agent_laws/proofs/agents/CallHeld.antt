@@ -88,16 +88,6 @@ module _ (k : Key) (id : Id) (commanded : asked.IsCommanded k) (of : List ℕ) w
 
   up_goes : (calls : Calls) (call : Call) (event : Id) (now : ℕ) (up : AnUp) (its : UpKind)
       → IsHarmless id up.id its → GoesIn call (received call (event_of calls event now) up its)
-  up_goes calls call event now up (kind.Request request reply_to) harmless =
-      unchanged call _ (ap (λ (taken : ServedTaken). starts taken.1)
-      (kind_same call.served (made_tag (event_of calls event now)) up
-      (kind.Request request reply_to) now)
-      ∙ kind_starts call.served (made_tag (event_of calls event now)) up
-      (kind.Request request reply_to) now)
-  up_goes calls call event now up (kind.Ack ack) harmless =
-      unchanged call _ (ap (λ (taken : ServedTaken). starts taken.1)
-      (kind_same call.served (made_tag (event_of calls event now)) up (kind.Ack ack) now)
-      ∙ kind_starts call.served (made_tag (event_of calls event now)) up (kind.Ack ack) now)
   up_goes calls call event now up (kind.Response response) harmless =
       (response_goes k id commanded of (event_of calls event now) up.id up.call_id response
       (side_of call) harmless).goes
@@ -107,6 +97,10 @@ module _ (k : Key) (id : Id) (commanded : asked.IsCommanded k) (of : List ℕ) w
   up_goes calls call event now up kind.Failed harmless =
       told_first call.clients _ _ _
       (lost_goes k id commanded of up.id false (side_of call) harmless).goes
+  up_goes calls call event now up its harmless =
+      unchanged call _ (ap (λ (taken : ServedTaken). starts taken.1)
+      (kind_same call.served (made_tag (event_of calls event now)) up its now)
+      ∙ kind_starts call.served (made_tag (event_of calls event now)) up its now)
 
   first_goes : (calls : Calls) (call : Call) (event : Id) (now : ℕ) (c : UserCommand)
       → call_of_command c ≡ of
@@ -115,13 +109,7 @@ module _ (k : Key) (id : Id) (commanded : asked.IsCommanded k) (of : List ℕ) w
       invite_goes k id commanded of (event_of calls event now) invited call.clients own
   first_goes calls call event now (user.Plain plain) own =
       plain_goes k id commanded of (event_of calls event now) plain call.clients own
-  first_goes calls call event now (user.Request request) own = unchanged call _ refl
-  first_goes calls call event now (user.Respond respond) own = unchanged call _ refl
-  first_goes calls call event now (user.Ack ack) own = unchanged call _ refl
-  first_goes calls call event now (user.Prack prack) own = unchanged call _ refl
-  first_goes calls call event now (user.Cancel cancel) own = unchanged call _ refl
-  first_goes calls call event now (user.AbandonRequest abandon) own = unchanged call _ refl
-  first_goes calls call event now (user.AbandonDialog abandon) own = unchanged call _ refl
+  first_goes calls call event now _ own = unchanged call _ refl
 
   command_goes : (calls : Calls) (call : Call) (event : Id) (now : ℕ) (c : UserCommand)
       → AreSidesOf of call

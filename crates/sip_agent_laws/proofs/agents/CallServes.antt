@@ -144,15 +144,8 @@ no_answer outs all id key message among =
 
 used_requests : (call : Call) (event : Event) (c : UserCommand) → IsOther c
     → requests_of (used_command call event c).0 ≡ requests_of call
-used_requests call event (user.Invite invite) other = refl
-used_requests call event (user.Plain plain) other = refl
-used_requests call event (user.Request request) other = refl
 used_requests call event (user.Respond respond) other = absurd (other respond refl)
-used_requests call event (user.Ack ack) other = refl
-used_requests call event (user.Prack prack) other = refl
-used_requests call event (user.Cancel cancel) other = refl
-used_requests call event (user.AbandonRequest abandon) other = refl
-used_requests call event (user.AbandonDialog abandon) other = refl
+used_requests call event _ other = refl
 
 command_requests : (held : Bool) (call : Call) (event : Event) (c : UserCommand) → IsOther c
     → requests_of (item_of_call held call event (User c)).0 ≡ requests_of call
@@ -284,22 +277,8 @@ item_serves calls None event (User (user.Respond respond)) now rise =
     (User (user.Respond respond)))
     (serves_same now _ []
     (λ id key message among. ⊎_elim (λ same. absurd cc) (λ none. absurd none) among))
-item_serves calls state event (User (user.Invite invite)) now rise =
-    other_serves calls state event (user.Invite invite) now (λ respond same. absurd cc)
-item_serves calls state event (User (user.Plain plain)) now rise =
-    other_serves calls state event (user.Plain plain) now (λ respond same. absurd cc)
-item_serves calls state event (User (user.Request request)) now rise =
-    other_serves calls state event (user.Request request) now (λ respond same. absurd cc)
-item_serves calls state event (User (user.Ack ack)) now rise =
-    other_serves calls state event (user.Ack ack) now (λ respond same. absurd cc)
-item_serves calls state event (User (user.Prack prack)) now rise =
-    other_serves calls state event (user.Prack prack) now (λ respond same. absurd cc)
-item_serves calls state event (User (user.Cancel cancel)) now rise =
-    other_serves calls state event (user.Cancel cancel) now (λ respond same. absurd cc)
-item_serves calls state event (User (user.AbandonRequest abandon)) now rise =
-    other_serves calls state event (user.AbandonRequest abandon) now (λ respond same. absurd cc)
-item_serves calls state event (User (user.AbandonDialog abandon)) now rise =
-    other_serves calls state event (user.AbandonDialog abandon) now (λ respond same. absurd cc)
+item_serves calls state event (User c) now rise =
+    other_serves calls state event c now (λ respond same. absurd cc)
 
 -- ---- no server transaction is given up
 

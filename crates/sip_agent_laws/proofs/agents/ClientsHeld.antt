@@ -402,14 +402,12 @@ module _ (k : Key) (id : Id) where
     support_call : (asked : ProvisionalSupport) (message : Message)
         → (with_100rel asked message).call_id ≡ message.call_id
     support_call support.None message = refl
-    support_call support.Supported message = refl
-    support_call support.Required message = refl
+    support_call _ message = refl
 
     support_method : (asked : ProvisionalSupport) (message : Message)
         → (with_100rel asked message).cseq.method ≡ message.cseq.method
     support_method support.None message = refl
-    support_method support.Supported message = refl
-    support_method support.Required message = refl
+    support_method _ message = refl
 
     pub invite_goes : (of : List ℕ) (event : Event) (command : Invite) (clients : Clients)
         → command.call_id ≡ of

@@ -116,12 +116,9 @@ either id (Some (event, Up up)) = by_kind up.kind refl
         (λ here status has. early_line response.start early status has))))
         (λ other. inl (harmless (kind.Response response) is
         (λ here. absurd (false≢true (sym other ∙ here)))))
-    by_kind kind.Timeout is =
-        by_bool (is_id up.id id) (λ same. inr (brings kind.Timeout is refl same))
-        (λ other. inl (harmless kind.Timeout is other))
-    by_kind kind.Failed is =
-        by_bool (is_id up.id id) (λ same. inr (brings kind.Failed is refl same))
-        (λ other. inl (harmless kind.Failed is other))
+    by_kind its is =
+        by_bool (is_id up.id id) (λ same. inr (brings its is refl same))
+        (λ other. inl (harmless its is other))
 
 -- ---- the input that brings it tells of it
 

@@ -164,12 +164,8 @@ module _ (said : List (Id × Key)) (came : List Id) where
         → KindIsFrom its id key
     kind_from q held (kind.Request request reply_to) id key same started received mild of = tt
     kind_from q held (kind.Ack ack) id key same started received mild of = tt
-    kind_from q held (kind.Response response) id key same started received mild of =
-        from_life q held (kind.Response response) id key same started received mild of
-    kind_from q held kind.Timeout id key same started received mild of =
-        from_life q held kind.Timeout id key same started received mild of
-    kind_from q held kind.Failed id key same started received mild of =
-        from_life q held kind.Failed id key same started received mild of
+    kind_from q held its id key same started received mild of =
+        from_life q held its id key same started received mild of
 
     outs_from : (q : Key) (held : Option Life) → IsStartedLife q held → IsReceivedLife q held
         → (outs : List Out) → AllByRecursion (UpIsOf q held) outs

@@ -22,7 +22,7 @@ use Rattle.keyed_machine.proofs.Ordered.{by_bool, exact_at}
 use Rattle.sip_transactions.specs.declared.input.Command.{Command}
 use Rattle.sip_transactions.specs.declared.input.Command.TheVariants as order
 use Rattle.sip_transactions.specs.declared.input.Input.{Input}
-use Rattle.sip_transactions.specs.declared.input.Input.TheVariants.{Receive, Start, Answer, Failed, Abandon}
+use Rattle.sip_transactions.specs.declared.input.Input.TheVariants.{Start, Answer, Abandon}
 use Rattle.sip_transactions.specs.declared.life.Context.{Context}
 use Rattle.sip_transactions.specs.declared.life.Life.{Life}
 use Rattle.sip_transactions.specs.declared.output.Out.{Out}
@@ -33,7 +33,7 @@ use Rattle.sip_transactions.specs.declared.output.UpKind.TheVariants as kind
 use Rattle.sip_transactions.specs.declared.state.Role.{Role}
 use Rattle.sip_transactions.specs.declared.state.Role.TheVariants as role
 use Rattle.sip_transactions.specs.declared.state.State.{State}
-use Rattle.sip_transactions.specs.declared.state.State.TheVariants.{Calling, Trying, Proceeding, Completed, Accepted, Confirmed}
+use Rattle.sip_transactions.specs.declared.state.State.TheVariants.{Calling, Trying, Proceeding}
 use Rattle.sip_transactions.specs.declared.step.Step.{Step}
 use Rattle.sip_transactions.specs.declared.step.UpAction.{UpAction}
 use Rattle.sip_transactions.specs.declared.step.UpAction.TheVariants as up
@@ -120,20 +120,13 @@ some_up (out.Dropped place why ∷ outs) =
 
 pub open_lacks : (state : State) → is_open role.Client state ≡ lacks role.Client state
 open_lacks Calling = refl
-open_lacks Trying = refl
-open_lacks Proceeding = refl
-open_lacks Completed = refl
-open_lacks Accepted = refl
-open_lacks Confirmed = refl
+open_lacks _ = refl
 
 asks_open : (state : State) → is_open role.Client state ≡ true
     → (lacks role.Client state && not (is_invite_client role.Client && pends state)) ≡ true
-asks_open Calling opened = opened
 asks_open Trying opened = refl
 asks_open Proceeding opened = refl
-asks_open Completed opened = opened
-asks_open Accepted opened = opened
-asks_open Confirmed opened = opened
+asks_open _ opened = opened
 
 one_lacks : (b : Bool) → 1 ≤ cond {A = ℕ} b 1 0 → b ≡ true
 one_lacks true one = refl
@@ -173,23 +166,17 @@ answers_order (start.Response status reason) trigger is =
 ordered_so : (life : Life) (now : ℕ) (input : Option Input) → IsOrder input
     → (trigger : Trigger) → trigger_of (Some life) now input ≡ Some trigger
     → is_order trigger ≡ true
-ordered_so life now None order trigger is = absurd order
-ordered_so life now (Some (Receive id message reply_to)) order trigger is = absurd order
-ordered_so life now (Some (Failed id)) order trigger is = absurd order
-ordered_so life now (Some Abandon) order trigger is = absurd order
 ordered_so life now (Some (Start id call_id message to)) order trigger is =
     let same : on.Start ≡ trigger = cc in
     sym (ap is_order same)
 ordered_so life now (Some (Answer id message)) order trigger is =
     answers_order message.start trigger is
+ordered_so life now _ order trigger is = absurd order
 
 no_abandon_order : (input : Option Input) → IsOrder input → is_abandon input ≡ false
 no_abandon_order None order = absurd order
-no_abandon_order (Some (Receive id message reply_to)) order = refl
-no_abandon_order (Some (Failed id)) order = refl
 no_abandon_order (Some Abandon) order = absurd order
-no_abandon_order (Some (Start id call_id message to)) order = refl
-no_abandon_order (Some (Answer id message)) order = refl
+no_abandon_order _ order = refl
 
 -- ---- what brings an outcome about
 
@@ -548,12 +535,8 @@ module _ (k : Key) (client : role_of k ≡ role.Client) (id : Id) (call_id : Lis
       (subst (λ h. GoesOn (step_at k h now None).0) is goes))
 
   no_abandon : (input : Option Input) → IsArrival input → is_abandon input ≡ false
-  no_abandon None arrives = refl
-  no_abandon (Some (Receive id message reply_to)) arrives = refl
-  no_abandon (Some (Start id call_id message to)) arrives = refl
-  no_abandon (Some (Answer id message)) arrives = refl
-  no_abandon (Some (Failed id)) arrives = refl
   no_abandon (Some Abandon) arrives = absurd arrives
+  no_abandon _ arrives = refl
 
   is_key : (q : Key) → is_at (key_cmp q) k ≡ true → q ≡ k
   is_key q hit = exact_at keys_total exact_keys q k hit

@@ -263,10 +263,7 @@ module _ (config : Config) (number : ℕ) (past : Past) (round : Round) where
         among_right came (requests_among items) up.id
         (request_among items there.0 up message reply_to is
         (subst (λ (all : List (Id × Item)). Among all (there.0, Up up)) (sym items_are) there.1))
-    up_came up (kind.Ack ack) is among = tt
-    up_came up (kind.Response response) is among = tt
-    up_came up kind.Timeout is among = tt
-    up_came up kind.Failed is among = tt
+    up_came up _ is among = tt
 
     all_came : (outs : List Out) → ((o : Out) → Among outs o → Among (joined first_told.items) o)
         → AllByRecursion (RequestCame said came_now) outs
@@ -463,13 +460,9 @@ module _ (config : Config) (number : ℕ) (past : Past) (round : Round) where
       harmless_kind (kind.Response response) own id key from known =
           λ same. mild_status response
           (mild_so (kind.Response response) own id key (id_exact own id same) from known)
-      harmless_kind kind.Timeout own id key from known =
+      harmless_kind its own id key from known =
           by_bool (is_id own id)
-          (λ same. absurd (mild_so kind.Timeout own id key (id_exact own id same) from known))
-          (λ other. other)
-      harmless_kind kind.Failed own id key from known =
-          by_bool (is_id own id)
-          (λ same. absurd (mild_so kind.Failed own id key (id_exact own id same) from known))
+          (λ same. absurd (mild_so its own id key (id_exact own id same) from known))
           (λ other. other)
 
       abbrev Harmless : Option CallItem → Type 0

@@ -217,11 +217,7 @@ nothing_kept calls call input now inside none = λ one.
 
 waits_open : (r : Role) (state : State) → waits r state ≡ true → is_open r state ≡ true
 waits_open role.InviteClient Calling is = refl
-waits_open role.InviteClient Trying is = absurd (false≢true is)
 waits_open role.InviteClient Proceeding is = refl
-waits_open role.InviteClient Completed is = absurd (false≢true is)
-waits_open role.InviteClient Accepted is = absurd (false≢true is)
-waits_open role.InviteClient Confirmed is = absurd (false≢true is)
 waits_open role.Client state is = absurd (by_state state is)
   where
     by_state : (state : State) → waits role.Client state ≡ true → ⊥
@@ -231,26 +227,16 @@ waits_open role.Client state is = absurd (by_state state is)
     by_state Completed is = false≢true is
     by_state Accepted is = false≢true is
     by_state Confirmed is = false≢true is
-waits_open role.InviteServer Calling is = absurd (false≢true is)
-waits_open role.InviteServer Trying is = absurd (false≢true is)
 waits_open role.InviteServer Proceeding is = refl
-waits_open role.InviteServer Completed is = absurd (false≢true is)
-waits_open role.InviteServer Accepted is = absurd (false≢true is)
-waits_open role.InviteServer Confirmed is = absurd (false≢true is)
-waits_open role.Server Calling is = absurd (false≢true is)
 waits_open role.Server Trying is = refl
 waits_open role.Server Proceeding is = refl
-waits_open role.Server Completed is = absurd (false≢true is)
-waits_open role.Server Accepted is = absurd (false≢true is)
-waits_open role.Server Confirmed is = absurd (false≢true is)
+waits_open role.InviteServer _ is = absurd (false≢true is)
+waits_open role.InviteClient _ is = absurd (false≢true is)
+waits_open role.Server _ is = absurd (false≢true is)
 
 client_not : (state : State) → waits role.Client state ≡ true → ⊥
 client_not Calling is = false≢true is
-client_not Trying is = false≢true is
-client_not Proceeding is = false≢true is
-client_not Completed is = false≢true is
-client_not Accepted is = false≢true is
-client_not Confirmed is = false≢true is
+client_not _ is = false≢true is
 
 nothing_found : {X : Type 0} (x : X) → None ≡ Some x → ⊥
 nothing_found x same = absurd cc
@@ -312,9 +298,7 @@ open_waits : (r : Role) (state : State) (call : Option Call) (key : Key) (id : I
 open_waits role.InviteClient state call key id is holds none =
     false≢true (sym (none (OurInvite id)) ∙ invite_waits call key id holds)
 open_waits role.Client state call key id is holds none = client_not state is
-open_waits role.InviteServer state call key id is holds none =
-    false≢true (sym (none (OfPeer id)) ∙ peer_waits call key id holds)
-open_waits role.Server state call key id is holds none =
+open_waits _ state call key id is holds none =
     false≢true (sym (none (OfPeer id)) ∙ peer_waits call key id holds)
 
 module _ (config : Config) (rounds : List Round)

@@ -312,12 +312,8 @@ module _ (config : Config) (number : ℕ) (past : Past) (round : Round) (rounds 
       → is_outcome its ≡ true → Among said (id, q) ⊎ Among requested id
   from_kind (kind.Request request reply_to) id q from outcome = absurd (false≢true outcome)
   from_kind (kind.Ack ack) id q from outcome = absurd (false≢true outcome)
-  from_kind (kind.Response response) id q (inl here) outcome = inl here.0
-  from_kind (kind.Response response) id q (inr there) outcome = inr there
-  from_kind kind.Timeout id q (inl here) outcome = inl here.0
-  from_kind kind.Timeout id q (inr there) outcome = inr there
-  from_kind kind.Failed id q (inl here) outcome = inl here.0
-  from_kind kind.Failed id q (inr there) outcome = inr there
+  from_kind _ id q (inl here) outcome = inl here.0
+  from_kind _ id q (inr there) outcome = inr there
 
   own_key : (q : Key) → Among said (x, q) ⊎ Among requested x → q ≡ k
   own_key q (inl here) =

@@ -106,9 +106,7 @@ module _ (k : Key) (client : role_of k ≡ role.Client) (x : Id) where
       × (own ≡ life.context.id)) → is_outcome its ≡ false
   not_held own (kind.Request request reply_to) of = refl
   not_held own (kind.Ack ack) of = refl
-  not_held own (kind.Response response) of = absurd (no_some of.0 of.1)
-  not_held own kind.Timeout of = absurd (no_some of.0 of.1)
-  not_held own kind.Failed of = absurd (no_some of.0 of.1)
+  not_held own _ of = absurd (no_some of.0 of.1)
 
   none_held : (outs : List Out) → AllByRecursion (UpIsOf k None) outs
       → AllByRecursion (λ o. mine o ≡ false) outs

@@ -12,7 +12,7 @@ use Rattle.sip_message.specs.declared.start_line.StartLine.{StartLine}
 use Rattle.sip_message.specs.declared.start_line.StartLine.TheVariants as start
 use Rattle.keyed_machine.proofs.Ordered.{by_bool}
 use Rattle.sip_transactions.specs.declared.input.Input.{Input}
-use Rattle.sip_transactions.specs.declared.input.Input.TheVariants.{Receive, Start, Answer, Failed, Abandon}
+use Rattle.sip_transactions.specs.declared.input.Input.TheVariants.{Receive, Start}
 use Rattle.sip_transactions.specs.declared.life.Context.{Context}
 use Rattle.sip_transactions.specs.declared.life.Life.{Life}
 use Rattle.sip_transactions.specs.declared.output.UpKind.{UpKind}
@@ -88,9 +88,7 @@ opens_rightly r state trigger step = not (opens r (entered step.next state))
 
 rows_open : (r : Role) → table_passes (opens_rightly r) (rows_of r) ≡ true
 rows_open role.InviteClient = refl
-rows_open role.Client = refl
-rows_open role.InviteServer = refl
-rows_open role.Server = refl
+rows_open _ = refl
 
 -- a life begins with a start or a request
 abbrev begins_rightly : Role → Option State → Trigger → Step → Bool
@@ -99,9 +97,7 @@ begins_rightly r state trigger step = is_none (entered step.next state)
 
 rows_begin : (r : Role) → table_passes (begins_rightly r) (rows_of r) ≡ true
 rows_begin role.InviteClient = refl
-rows_begin role.Client = refl
-rows_begin role.InviteServer = refl
-rows_begin role.Server = refl
+rows_begin _ = refl
 
 -- ---- one input
 
@@ -222,14 +218,10 @@ arrived_mild : (k : Key) (context : Context) (held : Option Life) (now : ℕ) (i
     (trigger : Trigger) → trigger_of held now input ≡ Some trigger → is_early trigger ≡ true
     → AllByRecursion IsMild
     (option_to_list (option_map (arrived_out k context) (arrived_in input)))
-arrived_mild k context held now None trigger is early = tt
 arrived_mild k context held now (Some (Receive id message reply_to)) trigger is early =
     let same : arrival_of message.start message.cseq.method ≡ trigger = cc in
     (early_kind message reply_to message.start refl (ap is_early same ∙ early), tt)
-arrived_mild k context held now (Some (Start id call_id message to)) trigger is early = tt
-arrived_mild k context held now (Some (Answer id message)) trigger is early = tt
-arrived_mild k context held now (Some (Failed id)) trigger is early = tt
-arrived_mild k context held now (Some Abandon) trigger is early = tt
+arrived_mild k context held now _ trigger is early = tt
 
 handed_mild : (k : Key) (context : Context) (held : Option Life) (now : ℕ) (input : Option Input)
     (trigger : Trigger) (handed : UpAction) → trigger_of held now input ≡ Some trigger
@@ -322,7 +314,6 @@ message_up : (k : Key) (context : Context) (handed : UpAction) (message : Messag
       kind = kind.Request message reply_to;
     }))
 unfolding handed_out
-message_up k context up.Nothing message reply_to is request = absurd (false≢true is)
 message_up k context up.Message message reply_to is request =
     ap (λ (kind : UpKind). Some (out.Up (record {
       key = k;
@@ -330,9 +321,7 @@ message_up k context up.Message message reply_to is request =
       call_id = context.call_id;
       kind = kind;
     }))) (request_kind message reply_to message.start request)
-message_up k context up.Timeout message reply_to is request = absurd (false≢true is)
-message_up k context up.Failed message reply_to is request = absurd (false≢true is)
-message_up k context up.NoTransaction message reply_to is request = absurd (false≢true is)
+message_up k context _ message reply_to is request = absurd (false≢true is)
 
 abbrev up_of : Key → Id → List ℕ → Message → Addr → Out
 up_of k id call_id message reply_to = out.Up (record {
@@ -365,10 +354,6 @@ none_on : (k : Key) (now : ℕ) (input : Option Input) (step : Step)
     → RowFor k None (record { moment = now; input = input }) step
     → LivesOn k None input (acted_if k now input None (begun (role_of k) input) step)
 unfolding begun
-none_on k now None step row life is = absurd cc
-none_on k now (Some (Answer id message)) step row life is = absurd cc
-none_on k now (Some (Failed id)) step row life is = absurd cc
-none_on k now (Some Abandon) step row life is = absurd cc
 none_on k now (Some (Receive id message reply_to)) step row life is =
     let r = role_of k in
     let context = context_by id message.call_id reply_to None in
@@ -418,6 +403,7 @@ none_on k now (Some (Start id call_id message to)) step row life is =
           ∙ and-left (is_request row.trigger) (is_message step.handed)
           (sym (ap (λ b. is_first b row.trigger step.handed) server) ∙ first)));
     })
+none_on k now _ step row life is = absurd cc
 
 row_on : (k : Key) (held : Option Life) (now : ℕ) (input : Option Input) (step : Step)
     → RowFor k held (record { moment = now; input = input }) step
@@ -462,9 +448,7 @@ UpIsOf k held (out.Dropped place why) = Unit {0}
 any_kind : (kind : UpKind) (Held : Type 0) → Held → KindIsOf kind Held
 any_kind (kind.Request request reply_to) Held it = tt
 any_kind (kind.Ack ack) Held it = tt
-any_kind (kind.Response response) Held it = it
-any_kind kind.Timeout Held it = it
-any_kind kind.Failed Held it = it
+any_kind _ Held it = it
 
 -- without a life at most a request or an ACK comes up
 abbrev is_message_in : Trigger → Bool
@@ -484,9 +468,7 @@ hands_little state trigger step = is_some state || is_little step.handed trigger
 
 rows_little : (r : Role) → table_passes hands_little (rows_of r) ≡ true
 rows_little role.InviteClient = refl
-rows_little role.Client = refl
-rows_little role.InviteServer = refl
-rows_little role.Server = refl
+rows_little _ = refl
 
 little_kind : (k : Key) (message : Message) (reply_to : Addr) (line : StartLine)
     (Held : Type 0) → is_message_in (arrival_of line message.cseq.method) ≡ true
@@ -528,10 +510,6 @@ none_ups : (k : Key) (now : ℕ) (input : Option Input) (step : Step)
     → RowFor k None (record { moment = now; input = input }) step
     → AllByRecursion (UpIsOf k None) (acted_if k now input None (begun (role_of k) input) step).1
 unfolding begun
-none_ups k now None step row = tt
-none_ups k now (Some (Answer id message)) step row = tt
-none_ups k now (Some (Failed id)) step row = tt
-none_ups k now (Some Abandon) step row = tt
 none_ups k now (Some (Receive id message reply_to)) step row =
     let r = role_of k in
     let context = context_by id message.call_id reply_to None in
@@ -547,6 +525,7 @@ none_ups k now (Some (Start id call_id message to)) step row =
     outputs_each (UpIsOf k None) k context (λ bytes. tt) step _ None
     (order_handed k context step.handed (ap (is_little step.handed) came
     ∙ row_passes hands_little (rows_of r) (rows_little r) None row.trigger step row.row))
+none_ups k now _ step row = tt
 
 row_ups : (k : Key) (held : Option Life) (now : ℕ) (input : Option Input) (step : Step)
     → RowFor k held (record { moment = now; input = input }) step

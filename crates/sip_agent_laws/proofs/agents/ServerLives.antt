@@ -27,7 +27,7 @@ use Rattle.sip_transactions.specs.declared.output.Out.TheVariants as out
 use Rattle.sip_transactions.specs.declared.output.UpKind.{UpKind}
 use Rattle.sip_transactions.specs.declared.output.UpKind.TheVariants as kind
 use Rattle.sip_transactions.specs.declared.state.Role.{Role}
-use Rattle.sip_transactions.specs.declared.state.Role.TheVariants.{InviteClient, Client, InviteServer, Server}
+use Rattle.sip_transactions.specs.declared.state.Role.TheVariants.{InviteClient, InviteServer, Server}
 use Rattle.sip_transactions.specs.declared.state.State.{State}
 use Rattle.sip_transactions.specs.declared.state.State.TheVariants.{Completed, Accepted}
 use Rattle.sip_transactions.specs.Dues.{Dues}
@@ -127,20 +127,14 @@ keeps_so life now (Some (Failed id)) keeps trigger is =
 keeps_so life now (Some Abandon) keeps trigger is = absurd keeps
 
 kept_open : (input : Option Input) → KeepsOpen input → is_abandon input ≡ true → ⊥
-kept_open None keeps given = false≢true given
-kept_open (Some (Receive id message reply_to)) keeps given = false≢true given
-kept_open (Some (Start id call_id message to)) keeps given = false≢true given
-kept_open (Some (Answer id message)) keeps given = false≢true given
-kept_open (Some (Failed id)) keeps given = false≢true given
 kept_open (Some Abandon) keeps given = keeps
+kept_open _ keeps given = false≢true given
 
 pub arrival_opens : (input : Option Input) → IsArrival input → KeepsOpen input
-arrival_opens None arrives = tt
-arrival_opens (Some (Receive id message reply_to)) arrives = tt
 arrival_opens (Some (Start id call_id message to)) arrives = absurd arrives
 arrival_opens (Some (Answer id message)) arrives = absurd arrives
-arrival_opens (Some (Failed id)) arrives = tt
 arrival_opens (Some Abandon) arrives = absurd arrives
+arrival_opens _ arrives = tt
 
 -- ---- and which a 2xx outlasts
 
@@ -171,17 +165,12 @@ stays_by Server Completed end now (Some Abandon) lasting outlasts = absurd outla
 stays_by Server Completed end now (Some input) lasting outlasts = refl
 stays_by role state end now input lasting outlasts = absurd (false≢true lasting)
 
-lasting_lasts : (role : Role) (state : State)
-    → (not (is_lasting role state) || (can_be role state && lasts state)) ≡ true
-lasting_lasts InviteServer Accepted = refl
-lasting_lasts Server Completed = refl
-lasting_lasts role state = refl
-
-lasting_closed : (role : Role) (state : State)
-    → (not (is_lasting role state) || not (is_open role state)) ≡ true
-lasting_closed InviteServer Accepted = refl
-lasting_closed Server Completed = refl
-lasting_closed role state = refl
+-- what is so of both is so after a 2xx
+by_lasting : (P : Role → State → Type 0) → P InviteServer Accepted → P Server Completed
+    → (role : Role) (state : State) → is_lasting role state ≡ true → P role state
+by_lasting P invite other InviteServer Accepted lasting = invite
+by_lasting P invite other Server Completed lasting = other
+by_lasting P invite other role state lasting = absurd (false≢true lasting)
 
 pub arrival_outlasts : (end now : ℕ) → nat_le end now ≡ false → (items : List (Item Key Input))
     → AreArrivals (timed_items now items)
@@ -197,18 +186,6 @@ arrival_outlasts end now early (item ∷ items) arrive =
     one (Answer id message) arrives = absurd arrives
     one (Failed id) arrives = tt
     one Abandon arrives = absurd arrives
-
-lasting_serves : (role : Role) (state : State)
-    → (not (is_lasting role state) || is_server role) ≡ true
-lasting_serves InviteServer Accepted = refl
-lasting_serves Server Completed = refl
-lasting_serves role state = refl
-
-lasting_ends : (role : Role) (state : State)
-    → (not (is_lasting role state) || not (waits role state)) ≡ true
-lasting_ends InviteServer Accepted = refl
-lasting_ends Server Completed = refl
-lasting_ends role state = refl
 
 as_goes : {P Q : State → Context → Type 0} → ((state : State) (context : Context)
     → P state context → Q state context) → (held : Option Life) → HeldAs P held → HeldAs Q held
@@ -296,9 +273,8 @@ module _ (k : Key) where
   never_both call_id id end None opens shuts = opens
   never_both call_id id end (Some life) opens shuts =
       let role = role_of k in
-      let closed : not (is_open role life.state) ≡ true =
-      implied (is_lasting role life.state) _ shuts.lasting (lasting_closed role life.state) in
-      false≢true (sym (ap not (and-right (is_server role) _ opens.still)) ∙ closed)
+      let closed = by_lasting (λ r s. is_open r s ≡ false) refl refl role life.state shuts.lasting in
+      false≢true (sym closed ∙ and-right (is_server role) _ opens.still)
 
   pub serves_open : (call_id : List ℕ) (id : Id) (held : Option Life) → Opens call_id id held
       → is_server (role_of k) ≡ true
@@ -308,8 +284,7 @@ module _ (k : Key) where
   pub serves_shut : (end : ℕ) (held : Option Life) → Shuts end held → is_server (role_of k) ≡ true
   serves_shut end None shuts = absurd shuts
   serves_shut end (Some life) shuts =
-      implied (is_lasting (role_of k) life.state) _ shuts.lasting
-      (lasting_serves (role_of k) life.state)
+      by_lasting (λ r s. is_server r ≡ true) refl refl (role_of k) life.state shuts.lasting
 
   -- ---- one input
 
@@ -350,7 +325,7 @@ module _ (k : Key) where
       (subst (λ b. After role life.state end b after)
       (stays_by role life.state end now input shuts.lasting outlasts)
       (step_lasts k life (record { moment = now; input = input }) end
-      (implied (is_lasting role life.state) _ shuts.lasting (lasting_lasts role life.state))
+      (by_lasting (λ r s. (can_be r s && lasts s) ≡ true) refl refl role life.state shuts.lasting)
       shuts.ends)))
 
   -- a 2xx goes out
@@ -424,8 +399,8 @@ module _ (k : Key) where
       entered_passes (waits role) (Some life.state) next (rule role life.state trigger)
       (implied (waits role life.state) _ waiting
       (early_row early_waits refl role life.state message.start trigger early is)) into))
-      (λ shut. absurd (false≢true (sym (ap not waiting)
-      ∙ implied (is_lasting role life.state) _ shut.1.lasting (lasting_ends role life.state))))
+      (λ shut. absurd (false≢true (sym (by_lasting (λ r s. waits r s ≡ false) refl refl role
+      life.state shut.1.lasting) ∙ waiting)))
       sent)
 
   pub open_then : (call_id : List ℕ) (id : Id) (items : Items) (states : States)
@@ -444,9 +419,7 @@ opens_at role state trigger step = not (is_request trigger && is_message step.ha
 
 rows_open : (role : Role) → table_passes (opens_at role) (rows_of role) ≡ true
 rows_open InviteClient = refl
-rows_open Client = refl
-rows_open InviteServer = refl
-rows_open Server = refl
+rows_open _ = refl
 
 -- under this key, id and Call-ID
 abbrev KindOpens : (Key → List ℕ → Id → Type 0) → Key → Id → List ℕ → UpKind → Type 0
@@ -490,9 +463,7 @@ module _ (k : Key) (Is : Key → List ℕ → Id → Type 0) where
   handed_opens context up.Message None from = tt
   handed_opens context up.Message (Some (message, reply_to)) from =
       (message_opens context message reply_to message.start from, tt)
-  handed_opens context up.Timeout arrived from = (tt, tt)
-  handed_opens context up.Failed arrived from = (tt, tt)
-  handed_opens context up.NoTransaction arrived from = (tt, tt)
+  handed_opens context _ arrived from = (tt, tt)
 
   arrived_so : (context : Context) (handed : UpAction) (held : Option Life) (now : ℕ)
       (input : Option Input) (trigger : Trigger) → trigger_of held now input ≡ Some trigger
@@ -500,11 +471,7 @@ module _ (k : Key) (Is : Key → List ℕ → Id → Type 0) where
   arrived_so context handed held now (Some (Receive id message reply_to)) trigger is from =
       let same : arrival_of message.start message.cseq.method ≡ trigger = cc in
       subst (λ t. FromRequest context t handed) (sym same) from
-  arrived_so context handed held now None trigger is from = tt
-  arrived_so context handed held now (Some (Start id call_id message to)) trigger is from = tt
-  arrived_so context handed held now (Some (Answer id message)) trigger is from = tt
-  arrived_so context handed held now (Some (Failed id)) trigger is from = tt
-  arrived_so context handed held now (Some Abandon) trigger is from = tt
+  arrived_so context handed held now _ trigger is from = tt
 
   outputs_open : (context : Context) (step : Step) (made : Option (List ℕ)) (held : Option Life)
       (now : ℕ) (input : Option Input) (trigger : Trigger)
@@ -526,10 +493,6 @@ module _ (k : Key) where
       → RowFor k None (record { moment = now; input = input }) step
       → TellsOpen (acted_if k now input None (begun (role_of k) input) step)
   unfolding begun
-  none_tells now None step row = tt
-  none_tells now (Some (Answer id message)) step row = tt
-  none_tells now (Some (Failed id)) step row = tt
-  none_tells now (Some Abandon) step row = tt
   none_tells now (Some (Start id call_id message to)) step row =
       let context = context_by id call_id to (cond (keeps_request (role_of k)) (Some message) None) in
       let same : on.Start ≡ row.trigger = cc in
@@ -550,6 +513,7 @@ module _ (k : Key) where
         held_as (IsOpen k context.call_id context.id) None context step now made into.0 into.1
             (record { still = into.2; id_is = refl; call_is = refl }),
       ))
+  none_tells now _ step row = tt
 
   row_tells : (held : Option Life) (now : ℕ) (input : Option Input) (step : Step)
       → RowFor k held (record { moment = now; input = input }) step
@@ -581,10 +545,7 @@ kind_goes : (Is To : Key → List ℕ → Id → Type 0)
     → (key : Key) (id : Id) (call_id : List ℕ) (its : UpKind) → KindOpens Is key id call_id its
     → KindOpens To key id call_id its
 kind_goes Is To goes key id call_id (kind.Request request reply_to) is = goes key call_id id is
-kind_goes Is To goes key id call_id (kind.Ack ack) is = tt
-kind_goes Is To goes key id call_id (kind.Response response) is = tt
-kind_goes Is To goes key id call_id kind.Timeout is = tt
-kind_goes Is To goes key id call_id kind.Failed is = tt
+kind_goes Is To goes key id call_id _ is = tt
 
 ups_go : (Is To : Key → List ℕ → Id → Type 0)
     → ((key : Key) (call_id : List ℕ) (id : Id) → Is key call_id id → To key call_id id)

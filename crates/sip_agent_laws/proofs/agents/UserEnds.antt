@@ -263,33 +263,18 @@ IsEnder (user.AbandonRequest abandon) = Unit {0}
 IsEnder (user.AbandonDialog abandon) = Unit {0}
 
 is_ender : (one : Waiting) (c : UserCommand) → Ends one c → IsEnder c
-is_ender (OfPeer id) (user.Invite invite) ends = ends
-is_ender (OfPeer id) (user.Plain plain) ends = ends
-is_ender (OfPeer id) (user.Request request) ends = ends
 is_ender (OfPeer id) (user.Respond respond) ends = tt
-is_ender (OfPeer id) (user.Ack ack) ends = ends
-is_ender (OfPeer id) (user.Prack prack) ends = ends
-is_ender (OfPeer id) (user.Cancel cancel) ends = ends
 is_ender (OfPeer id) (user.AbandonRequest abandon) ends = tt
 is_ender (OfPeer id) (user.AbandonDialog abandon) ends = tt
-is_ender (OurInvite id) (user.Invite invite) ends = ends
-is_ender (OurInvite id) (user.Plain plain) ends = ends
-is_ender (OurInvite id) (user.Request request) ends = ends
 is_ender (OurInvite id) (user.Respond respond) ends = tt
-is_ender (OurInvite id) (user.Ack ack) ends = ends
-is_ender (OurInvite id) (user.Prack prack) ends = ends
-is_ender (OurInvite id) (user.Cancel cancel) ends = ends
 is_ender (OurInvite id) (user.AbandonRequest abandon) ends = tt
 is_ender (OurInvite id) (user.AbandonDialog abandon) ends = tt
-is_ender (InDialog name) (user.Invite invite) ends = ends
-is_ender (InDialog name) (user.Plain plain) ends = ends
-is_ender (InDialog name) (user.Request request) ends = ends
 is_ender (InDialog name) (user.Respond respond) ends = tt
-is_ender (InDialog name) (user.Ack ack) ends = ends
-is_ender (InDialog name) (user.Prack prack) ends = ends
-is_ender (InDialog name) (user.Cancel cancel) ends = ends
 is_ender (InDialog name) (user.AbandonRequest abandon) ends = tt
 is_ender (InDialog name) (user.AbandonDialog abandon) ends = tt
+is_ender (OfPeer id) _ ends = ends
+is_ender (OurInvite id) _ ends = ends
+is_ender (InDialog name) _ ends = ends
 
 -- each request other than an INVITE is given up by one of these commands
 abbrev AreGivenUp : List (Timed CallItem) → Clients → Type 0
@@ -360,12 +345,6 @@ module _ (timed : Timed CallItem) (rest : List (Timed CallItem)) (event : Id) wh
       → IsDistinct is_id (keys_of (side_held call).clients)
       → AreGivenUp (timed ∷ rest) (side_held call).clients
       → AreGivenUp rest (side_held (call_step calls call (Some (event, User c)) now).0).clients
-  command_left calls None now (user.Respond respond) ender is apart all =
-      kept_all Left (new_call calls.local) tt
-  command_left calls None now (user.AbandonRequest abandon) ender is apart all =
-      kept_all Left (new_call calls.local) tt
-  command_left calls None now (user.AbandonDialog abandon) ender is apart all =
-      kept_all Left (new_call calls.local) tt
   command_left calls (Some call) now (user.Respond respond) ender is apart all =
       kept_all Left (item_of_call true call (event_of calls event now)
       (User (user.Respond respond))).0
@@ -385,6 +364,8 @@ module _ (timed : Timed CallItem) (rest : List (Timed CallItem)) (event : Id) wh
   command_left calls call now (user.Ack ack) ender is apart all = absurd ender
   command_left calls call now (user.Prack prack) ender is apart all = absurd ender
   command_left calls call now (user.Cancel cancel) ender is apart all = absurd ender
+  command_left calls None now _ ender is apart all =
+      kept_all Left (new_call calls.local) tt
 
 only_invites : (clients : Clients) → AreGivenUp [] clients → AreInvites clients
 only_invites [] all = tt

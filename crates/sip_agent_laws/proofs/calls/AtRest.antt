@@ -145,17 +145,14 @@ lost_still call id timed_out all = each_but_one NoRemoval (is_id id) call.client
 up_still : (call : Call) (event : Event) (up : AnUp) (k : UpKind) → is_message k ≡ false
     → AllByRecursion IsStill (requests_of call) → NoRemovals call.clients
     → AreStill (kept (received call event up k)).0
-up_still call event up (kind.Request request reply_to) inside requests clients =
-    absurd (true≢false inside)
-up_still call event up (kind.Ack ack) inside requests clients = absurd (true≢false inside)
-up_still call event up (kind.Response response) inside requests clients =
-    absurd (true≢false inside)
 up_still call event up kind.Timeout inside requests clients =
     kept_still (received call event up kind.Timeout).0 requests
     (lost_still call up.id true clients)
 up_still call event up kind.Failed inside requests clients =
     kept_still (received call event up kind.Failed).0 requests
     (lost_still call up.id false clients)
+up_still call event up _ inside requests clients =
+    absurd (true≢false inside)
 
 stays_still : (calls : Calls) (state : Option Call) (input : Option CallItem) (now : ℕ)
     → is_from_outside input ≡ false → AreStill state

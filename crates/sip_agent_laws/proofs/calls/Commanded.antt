@@ -348,8 +348,7 @@ cancel_gives event command side = by_found (client_at command.id side.clients)
 supporting : (support : ProvisionalSupport) (invite : Message)
     → (with_100rel support invite).cseq ≡ invite.cseq
 supporting support.None invite = refl
-supporting support.Supported invite = refl
-supporting support.Required invite = refl
+supporting _ invite = refl
 
 invite_goes : (event : Event) (invite : AnInvite) (clients : Clients)
     → OneCommand (starts (codes "INVITE")) (invite_command event invite clients).1

@@ -53,11 +53,8 @@ up_sound call event up kind.Failed sound =
 
 command_sound : (call : Call) (event : Event) (command : UserCommand) → AreSound call.clients
     → AreSound ((command_taken call event command).0).clients
-command_sound call event (Invite invite) sound = sound
-command_sound call event (Plain plain) sound = sound
 command_sound call event (Request request) sound =
     request_sound event request (side_of call) sound
-command_sound call event (Respond respond) sound = sound
 command_sound call event (Ack ack) sound = ack_sound event ack (side_of call) sound
 command_sound call event (Prack prack) sound = prack_sound event prack (side_of call) sound
 command_sound call event (Cancel cancel) sound = cancel_sound event cancel (side_of call) sound
@@ -65,6 +62,7 @@ command_sound call event (AbandonRequest abandon) sound =
     abandons.request_sound event abandon (side_of call) sound
 command_sound call event (AbandonDialog abandon) sound =
     abandons.dialog_sound event abandon (side_of call) sound
+command_sound call event _ sound = sound
 
 none_sound : AreSound []
 none_sound = (none_apart is_id, tt)
@@ -73,13 +71,7 @@ first_sound : (calls : Calls) (event : Event) (command : UserCommand)
     → AreSound ((first_command_taken (new_call calls.local) event command).0).clients
 first_sound calls event (Invite invite) = invite_sound event invite [] none_sound
 first_sound calls event (Plain plain) = plain_sound event plain [] none_sound
-first_sound calls event (Request request) = none_sound
-first_sound calls event (Respond respond) = none_sound
-first_sound calls event (Ack ack) = none_sound
-first_sound calls event (Prack prack) = none_sound
-first_sound calls event (Cancel cancel) = none_sound
-first_sound calls event (AbandonRequest abandon) = none_sound
-first_sound calls event (AbandonDialog abandon) = none_sound
+first_sound calls event _ = none_sound
 
 kept_sound : (taken : CallTaken) → AreSound (taken.0).clients
     → AreSound (side_held (kept taken).0).clients
@@ -131,22 +123,13 @@ module _ (state : State) (ids : List Id) where
       (arrival_adds state up.call_id (arrival_of up request reply_to tag) now)
   kind_apart tag up (kind.Ack ack) now differ sound =
       same_sound ids state.requests _ sound (ack_ids state up.call_id ack)
-  kind_apart tag up (kind.Response response) now differ sound = sound
-  kind_apart tag up kind.Timeout now differ sound = sound
-  kind_apart tag up kind.Failed now differ sound = sound
+  kind_apart tag up _ now differ sound = sound
 
   command_apart : (id : Id) (command : UserCommand) (now : ℕ) → Sound state.requests ids
       → Sound ((server_command_taken state id command now).0).requests ids
-  command_apart id (Invite invite) now sound = sound
-  command_apart id (Plain plain) now sound = sound
-  command_apart id (Request request) now sound = sound
   command_apart id (Respond respond) now sound =
       same_sound ids state.requests _ sound (respond_ids state id respond now)
-  command_apart id (Ack ack) now sound = sound
-  command_apart id (Prack prack) now sound = sound
-  command_apart id (Cancel cancel) now sound = sound
-  command_apart id (AbandonRequest abandon) now sound = sound
-  command_apart id (AbandonDialog abandon) now sound = sound
+  command_apart id _ now sound = sound
 
   event_apart : (calls : Calls) (input : Option CallItem) (now : ℕ)
       → IsDistinct is_id (cons_option (request_brought input) ids)

@@ -110,10 +110,6 @@ module _ (P : CallOut → Type 0) (passes : Passes P) where
       → ((response : Message) → k ≡ kind.Response response
       → ResponseAllowed P others.allows event up.id up.call_id response)
       → AllPass (up_taken call event up k).1
-  up_passes call event up (kind.Request request reply_to) brings =
-      others.kinds call.served (made_tag event) up (kind.Request request reply_to) event.moment
-  up_passes call event up (kind.Ack ack) brings =
-      others.kinds call.served (made_tag event) up (kind.Ack ack) event.moment
   up_passes call event up (kind.Response response) brings =
       response_told P others.allows event up.id up.call_id response (side_of call)
       (brings response refl)
@@ -121,6 +117,8 @@ module _ (P : CallOut → Type 0) (passes : Passes P) where
       (passes.timeout up.call_id up.id, lost_told P others.allows up.id true (side_of call))
   up_passes call event up kind.Failed brings =
       (passes.failed up.call_id up.id, lost_told P others.allows up.id false (side_of call))
+  up_passes call event up its brings =
+      others.kinds call.served (made_tag event) up its event.moment
 
   -- an item, whatever is held
   pub item_passes : (calls : Calls) (state : Option Call) (id : Id) (item : Item) (now : ℕ)

@@ -29,7 +29,7 @@ use Rattle.sip_served.proofs.Found.{change, found_changed, keeps}
 use Rattle.sip_served.proofs.RequestIds.{ids_of, respond_ids}
 use Rattle.sip_clients.specs.declared.client.Client.{Client}
 use Rattle.sip_clients.specs.declared.client.RequestKind.{RequestKind}
-use Rattle.sip_clients.specs.declared.client.RequestKind.TheVariants.{InitialInvite, ReInvite, InDialog as InADialog, OutOfDialog}
+use Rattle.sip_clients.specs.declared.client.RequestKind.TheVariants.{InitialInvite}
 use Rattle.sip_clients.specs.declared.event.Event.{Event}
 use Rattle.sip_clients.specs.Abandon.{dialog_abandoned_of, end_command, request_abandoned, request_abandoned_of}
 use Rattle.sip_clients.specs.Client.{Clients, ClientTaken, Side, client_at, without_client}
@@ -187,9 +187,7 @@ abandoned_gone event command side sound = by_client (client_at command.id side.c
 -- what ends with the request are the early dialogs that it made
 own_same : (kind : RequestKind) (dialogs : Dialogs) → own_ended kind false dialogs ≡ (dialogs, [])
 own_same InitialInvite dialogs = refl
-own_same (ReInvite life) dialogs = refl
-own_same (InADialog life) dialogs = refl
-own_same OutOfDialog dialogs = refl
+own_same _ dialogs = refl
 
 pub ended_same : (client : Client) (dialogs : Dialogs)
     → ended_with client false dialogs ≡ early_ended client.id dialogs

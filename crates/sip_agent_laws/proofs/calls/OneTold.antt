@@ -170,17 +170,13 @@ module _ (id : Id) where
 
   up_quiet : (call : Call) (event : Event) (up : AnUp) (k : UpKind) → (k ≡ kind.Timeout → ⊥)
       → (k ≡ kind.Failed → ⊥) → AllByRecursion Quiet (up_taken call event up k).1
-  up_quiet call event up (kind.Request request reply_to) timeout failed =
-      (others.passes_others id true).kinds call.served (made_tag event) up
-      (kind.Request request reply_to) event.moment
-  up_quiet call event up (kind.Ack ack) timeout failed =
-      (others.passes_others id true).kinds call.served (made_tag event) up (kind.Ack ack)
-      event.moment
   up_quiet call event up (kind.Response response) timeout failed =
       response_told Quiet (others.allows id true) event up.id up.call_id response (side_of call)
       (λ name status has. refl)
   up_quiet call event up kind.Timeout timeout failed = absurd (timeout refl)
   up_quiet call event up kind.Failed timeout failed = absurd (failed refl)
+  up_quiet call event up its timeout failed =
+      (others.passes_others id true).kinds call.served (made_tag event) up its event.moment
 
   -- what comes up
   lost_counted : (call : Call) (event : Event) (up : AnUp) (one : Notice) (rest : List CallOut)
@@ -248,9 +244,6 @@ module _ (id : Id) where
 
     up_counted : (k : UpKind) → up.kind ≡ k
         → counted outs ≤ cond (brings_outcome id (Some (event, Up up))) 1 0
-    up_counted (kind.Request request reply_to) is = by_quiet _ is (λ same. cc) (λ same. cc)
-    up_counted (kind.Ack ack) is = by_quiet _ is (λ same. cc) (λ same. cc)
-    up_counted (kind.Response response) is = by_quiet _ is (λ same. cc) (λ same. cc)
     up_counted kind.Timeout is =
         let taken = of_kind kind.Timeout is in
         let count = lost_counted call ev up (notice.Timeout up.call_id up.id)
@@ -275,6 +268,7 @@ module _ (id : Id) where
           ap counted taken,
           ap (λ (k : UpKind). cond {A = ℕ} (is_id id up.id && is_outcome k) 1 0) is,
         )
+    up_counted _ is = by_quiet _ is (λ same. cc) (λ same. cc)
 
   -- ---- a tick
 

@@ -152,9 +152,7 @@ module _ (id : Id) (lost : Bool) where
         tag = local_tag_of request made;
       }) now
   received_silent state made up (kind.Ack ack) now = ack_silent state up.call_id ack
-  received_silent state made up (kind.Response response) now = tt
-  received_silent state made up kind.Timeout now = tt
-  received_silent state made up kind.Failed now = tt
+  received_silent state made up _ now = tt
 
   -- ---- the user's response
 

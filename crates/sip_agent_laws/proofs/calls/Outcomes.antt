@@ -100,14 +100,11 @@ unfolding request_is_lost response_received
 received_closes call event up (kind.Request request reply_to) client sound found is =
     absurd (false≢true is)
 received_closes call event up (kind.Ack ack) client sound found is = absurd (false≢true is)
-received_closes call event up kind.Timeout client sound found is =
-    kept_closed up.id kind.Timeout (received call event up kind.Timeout)
-    (first_told (is_id up.id up.id) _ (id_laws.refl up.id)) (gone_at up.id call.clients sound)
-received_closes call event up kind.Failed client sound found is =
-    kept_closed up.id kind.Failed (received call event up kind.Failed)
-    (first_told (is_id up.id up.id) _ (id_laws.refl up.id)) (gone_at up.id call.clients sound)
 received_closes call event up (kind.Response response) client sound found is =
     response_closes call event up response client sound found (status_of response.start) refl is
+received_closes call event up its client sound found is =
+    kept_closed up.id its (received call event up its)
+    (first_told (is_id up.id up.id) _ (id_laws.refl up.id)) (gone_at up.id call.clients sound)
 
 closes_from : (calls : Calls) (state : Option Call) (event : Id) (up : AnUp) (now : ℕ)
     (client : Client) → AreSound (side_held state).clients

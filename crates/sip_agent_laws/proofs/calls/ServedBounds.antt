@@ -16,7 +16,7 @@ use Rattle.sip_reliable.specs.declared.send_fault.SendFault.{SendFault}
 use Rattle.sip_reliable.specs.Provisional.{Provisional, after_repeat, given_up, is_late, is_repeated}
 use Rattle.sip_reliable.specs.Ledger.{Ledger, first_moment, next_moment, ok_unless, send_fault}
 use Rattle.sip_transactions.specs.declared.output.UpKind.{UpKind}
-use Rattle.sip_transactions.specs.declared.output.UpKind.TheVariants.{Request, Ack, Response, Timeout, Failed}
+use Rattle.sip_transactions.specs.declared.output.UpKind.TheVariants.{Request, Ack}
 use Rattle.sip_transactions.specs.declared.output.Up.{Up}
 use Rattle.sip_user.specs.declared.command.Respond.{Respond as Answer}
 use Rattle.sip_user.specs.declared.refusal.Refusal.{Refusal}
@@ -28,7 +28,7 @@ use Rattle.sip_held_dialogs.proofs.Each as each
 use Rattle.sip_served.specs.declared.arrival.Arrival.{Arrival}
 use Rattle.sip_served.specs.declared.held_request.HeldRequest.{HeldRequest}
 use Rattle.sip_served.specs.declared.held_request.Success.{Success}
-use Rattle.sip_served.specs.RequestLife.{RequestHappening, EndsSuccess, Finishes, GivesUpProvisionals, MakesDialog, RepeatsProvisionals, RepeatsSuccess, SendsReliably, TakesPrack, request_happened, went_on}
+use Rattle.sip_served.specs.RequestLife.{RequestHappening, Finishes, GivesUpProvisionals, MakesDialog, RepeatsProvisionals, SendsReliably, TakesPrack, request_happened, went_on}
 use Rattle.sip_served.specs.Respond.{after_answer, answers, by_refusal, by_request, is_sent_reliably, makes_dialog, refusal_for, respond_taken, sends_as, with_dialog}
 use Rattle.sip_served.specs.Rules.Arrivals.{ack_for, ack_received, after_487, after_ack, after_prack, after_request, awaits, cancel_for, is_above, is_merged, is_named_by, is_same_branch, no_such_call, prack_for, prack_received, request_for_user, request_in_dialog, request_received, server_received}
 use Rattle.sip_served.specs.Rules.Ticks.{provisionals_tick, server_tick, success_at, success_tick}
@@ -110,13 +110,7 @@ happened_set m held (Finishes response status now) by set =
       success = λ lacks. absurd (some_end (now + LIFETIME) lacks);
       sent = set.sent;
     }
-happened_set m held (RepeatsSuccess now) by set =
-    record {
-      removal = set.removal;
-      success = no_more _ held set.success;
-      sent = set.sent;
-    }
-happened_set m held (EndsSuccess end) by set =
+happened_set m held _ by set =
     record {
       removal = set.removal;
       success = no_more _ held set.success;
@@ -327,9 +321,7 @@ module _ (m : ℕ) where
         tag = local_tag_of request tag;
       } now (by refl) state all).all
   kind_set state tag up (Ack ack) now by all = (ack_set state up.call_id ack all).all
-  kind_set state tag up (Response response) now by all = all
-  kind_set state tag up Timeout now by all = all
-  kind_set state tag up Failed now by all = all
+  kind_set state tag up _ now by all = all
 
   pub tick_set : (state : State) (now : ℕ) → AreSet m state → AreSet m (server_tick state now).0
   unfolding server_tick

@@ -8,7 +8,7 @@ use Rattle.sip_transactions.specs.declared.output.UpKind.{UpKind}
 use Rattle.sip_transactions.specs.declared.output.UpKind.TheVariants as kind
 use Rattle.sip_transactions.specs.declared.output.Up.{Up as AnUp}
 use Rattle.sip_user.specs.declared.command.UserCommand.{UserCommand}
-use Rattle.sip_user.specs.declared.command.UserCommand.TheVariants.{Invite, Plain, Request, Respond, Ack, Prack, Cancel, AbandonRequest, AbandonDialog}
+use Rattle.sip_user.specs.declared.command.UserCommand.TheVariants.{Invite}
 use Rattle.sip_user.specs.declared.item.Item.TheVariants.{Up, User}
 use Rattle.sip_served.specs.Run.{event_taken}
 use Rattle.sip_served.specs.State.{empty_at}
@@ -27,35 +27,18 @@ up_served : (call : Call) (event : Event) (up : AnUp) (k : UpKind)
     → requests_of (up_taken call event up k).0
     ≡ ((kind_taken call.served (made_tag event) up k event.moment).0).requests
 up_served call event up (kind.Request request reply_to) = refl
-up_served call event up (kind.Ack ack) = refl
-up_served call event up (kind.Response response) = refl
-up_served call event up kind.Timeout = refl
-up_served call event up kind.Failed = refl
+up_served call event up _ = refl
 
 command_served : (call : Call) (calls : Calls) (id : Id) (now : ℕ) (command : UserCommand)
     → requests_of (command_taken call (event_of calls id now) command).0
     ≡ ((server_command_taken call.served id command now).0).requests
 command_served call calls id now (Invite invite) = refl
-command_served call calls id now (Plain plain) = refl
-command_served call calls id now (Request request) = refl
-command_served call calls id now (Respond respond) = refl
-command_served call calls id now (Ack ack) = refl
-command_served call calls id now (Prack prack) = refl
-command_served call calls id now (Cancel cancel) = refl
-command_served call calls id now (AbandonRequest abandon) = refl
-command_served call calls id now (AbandonDialog abandon) = refl
+command_served call calls id now _ = refl
 
 none_answered : (local : Addr) (id : Id) (command : UserCommand) (now : ℕ)
     → [] ≡ ((server_command_taken (empty_at local) id command now).0).requests
 none_answered local id (Invite invite) now = refl
-none_answered local id (Plain plain) now = refl
-none_answered local id (Request request) now = refl
-none_answered local id (Respond respond) now = refl
-none_answered local id (Ack ack) now = refl
-none_answered local id (Prack prack) now = refl
-none_answered local id (Cancel cancel) now = refl
-none_answered local id (AbandonRequest abandon) now = refl
-none_answered local id (AbandonDialog abandon) now = refl
+none_answered local id _ now = refl
 
 served_taken_so : (calls : Calls) (state : Option Call) (input : Option CallItem) (now : ℕ)
     → requests_held (step_taken calls state input now).0

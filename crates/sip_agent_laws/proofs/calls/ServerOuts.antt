@@ -46,10 +46,7 @@ any_own = record {
 
 any_kind : (k : UpKind) → KindGiven Any k
 any_kind (kind.Request request reply_to) = tt
-any_kind (kind.Ack ack) = tt
-any_kind (kind.Response response) = tt
-any_kind kind.Timeout = tt
-any_kind kind.Failed = tt
+any_kind _ = tt
 
 module _ (P : CallOut → Type 0) (allows : AllowsServed P Any) where
   any_success : (o : Option Success) → IfSome o (λ success. Any success.response)

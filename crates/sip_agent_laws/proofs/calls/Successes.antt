@@ -49,9 +49,7 @@ name_is : (asked : RequestKind) (client : Client) (response : Message)
     (dialog_id_of_tags (tag_of client.request.from) (tag_of response.to))
     ≡ reply_name asked client response
 name_is asks.InitialInvite client response = refl
-name_is (asks.ReInvite reference) client response = refl
-name_is (asks.InDialog reference) client response = refl
-name_is asks.OutOfDialog client response = refl
+name_is _ client response = refl
 
 success_final : (status : ℕ) → is_success status ≡ true → is_final status ≡ true
 success_final status success = (and_parts (nat_le 200 status) _ success).0

@@ -294,8 +294,6 @@ module _ (calls : Calls) (state : Option Call) (event : Id) (up : AnUp) (now : �
       absurd (other response (sym is ∙ ap (λ (up : AnUp). up.kind) same ∙ brought))))))
 
   up_told : (k : UpKind) → up.kind ≡ k → Goal
-  up_told (kind.Request request reply_to) is = untold _ is (λ response same. cc)
-  up_told (kind.Ack ack) is = untold _ is (λ response same. cc)
   up_told (kind.Response response) is =
       let ev = event_of calls event now in
       let call = of_state calls state in
@@ -316,8 +314,7 @@ module _ (calls : Calls) (state : Option Call) (event : Id) (up : AnUp) (now : �
           is = it.2;
         })
       ]
-  up_told kind.Timeout is = untold _ is (λ response same. cc)
-  up_told kind.Failed is = untold _ is (λ response same. cc)
+  up_told _ is = untold _ is (λ response same. cc)
 
 pub told_once : ToldOnce
 told_once calls None None now = inl refl

@@ -262,9 +262,6 @@ up_adds : (before : Option Call) (call : Call) (event : Event) (up : AnUp) (k : 
     → FewerRequests (requests_held before) (requests_of call)
     → FewerWait (side_held before) (side_of call)
     → AddsNone before (kept (up_taken call event up k)).0
-up_adds before call event up (kind.Request request reply_to) inside requests side = absurd cc
-up_adds before call event up (kind.Ack ack) inside requests side = absurd cc
-up_adds before call event up (kind.Response response) inside requests side = absurd cc
 up_adds before call event up kind.Timeout inside requests side =
     let lost = lost_fewer up.id true (client_at up.id call.clients) (side_of call) in
     kept_adds before (up_taken call event up kind.Timeout).0 requests (record {
@@ -277,6 +274,7 @@ up_adds before call event up kind.Failed inside requests side =
       clients = λ id found. side.clients id (lost.clients id found);
       dialogs = λ name found. side.dialogs name (lost.dialogs name found);
     })
+up_adds before call event up _ inside requests side = absurd cc
 
 pub others_add_nothing : OthersAddNothing
 others_add_nothing calls None None now inside one = λ e. e

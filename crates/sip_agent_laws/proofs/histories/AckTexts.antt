@@ -64,10 +64,7 @@ any_own = record {
 
 pub any_kind : (k : UpKind) → KindGiven Any k
 any_kind (kind.Request request reply_to) = tt
-any_kind (kind.Ack ack) = tt
-any_kind (kind.Response response) = tt
-any_kind kind.Timeout = tt
-any_kind kind.Failed = tt
+any_kind _ = tt
 
 any_success : (o : Option Success) → IfSome o (λ success. Any success.response)
 any_success None = tt
@@ -124,13 +121,7 @@ first_says : (call : Call) (event : Event) (command : UserCommand) → AskAll ca
     → CallSays (first_command_taken call event command)
 first_says call event (user.Invite invite) all = invite_says Any event invite call.clients all
 first_says call event (user.Plain plain) all = plain_says Any event plain call.clients all
-first_says call event (user.Request request) all = (all, (tt, tt))
-first_says call event (user.Respond respond) all = (all, (tt, tt))
-first_says call event (user.Ack ack) all = (all, (tt, tt))
-first_says call event (user.Prack prack) all = (all, (tt, tt))
-first_says call event (user.Cancel cancel) all = (all, (tt, tt))
-first_says call event (user.AbandonRequest abandon) all = (all, (tt, tt))
-first_says call event (user.AbandonDialog abandon) all = (all, (tt, tt))
+first_says call event _ all = (all, (tt, tt))
 
 user_says : (call : Call) (event : Event) (command : UserCommand) → AskAll call.clients
     → CallSays (command_taken call event command)

@@ -57,7 +57,7 @@ use Rattle.sip_clients.specs.declared.answers.SentAck.{SentAck}
 use Rattle.sip_clients.specs.declared.client.Cancelling.TheVariants.{NotAsked, Sent}
 use Rattle.sip_clients.specs.declared.client.Client.{Client}
 use Rattle.sip_clients.specs.declared.client.RequestKind.{RequestKind}
-use Rattle.sip_clients.specs.declared.client.RequestKind.TheVariants.{InitialInvite, ReInvite, InDialog, OutOfDialog}
+use Rattle.sip_clients.specs.declared.client.RequestKind.TheVariants.{InitialInvite}
 use Rattle.sip_clients.specs.declared.event.Event.{Event}
 use Rattle.sip_clients.specs.declared.reply.ReceivedResponse.{ReceivedResponse}
 use Rattle.sip_clients.proofs.Abandons as abandons
@@ -255,15 +255,11 @@ same_name : (k : RequestKind) (client : Client) (response : Message)
     (dialog_id_of_tags (tag_of client.request.from) (tag_of response.to))
     ≡ reply_name k client response
 same_name InitialInvite client response = refl
-same_name (ReInvite life) client response = refl
-same_name (InDialog life) client response = refl
-same_name OutOfDialog client response = refl
+same_name _ client response = refl
 
 same_invite : (k : RequestKind) → rule.is_invite_kind k ≡ is_invite_kind k
 same_invite InitialInvite = refl
-same_invite (ReInvite life) = refl
-same_invite (InDialog life) = refl
-same_invite OutOfDialog = refl
+same_invite _ = refl
 
 same_status : (line : StartLine) → rules.status_of line ≡ status_of line
 same_status (start_line.Request uri) = refl
@@ -506,13 +502,7 @@ module _ (before : Option Call) (call : Call) (same : side_held before ≡ side_
       → Law (Some (id, User command)) (first_command_taken call event command)
   first_law event id (user.Invite invite) = inl (invite_no_ack event invite (side_of call))
   first_law event id (user.Plain plain) = inl (plain_no_ack event plain (side_of call))
-  first_law event id (user.Request request) = inl refl
-  first_law event id (user.Respond respond) = inl refl
-  first_law event id (user.Ack ack) = inl refl
-  first_law event id (user.Prack prack) = inl refl
-  first_law event id (user.Cancel cancel) = inl refl
-  first_law event id (user.AbandonRequest abandon) = inl refl
-  first_law event id (user.AbandonDialog abandon) = inl refl
+  first_law event id _ = inl refl
 
   ack_law : (event : Event) (id : Id) (command : DialogBody)
       → Law (Some (id, User (user.Ack command))) (command_taken call event (user.Ack command))

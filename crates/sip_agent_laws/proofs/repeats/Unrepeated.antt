@@ -111,16 +111,9 @@ module _ (state : State) (stories : Stories) where
 
   command_same : (tag : List ℕ) (event : Id) (c : UserCommand) (now : ℕ)
       → Same stories (item_told state tag event (item.User c) now stories)
-  command_same tag event (command.Invite i) now = refl
-  command_same tag event (command.Plain i) now = refl
-  command_same tag event (command.Request i) now = refl
   command_same tag event (command.Respond r) now =
       respond_same event r now (find (has_id r.id) state.requests)
-  command_same tag event (command.Ack i) now = refl
-  command_same tag event (command.Prack i) now = refl
-  command_same tag event (command.Cancel i) now = refl
-  command_same tag event (command.AbandonRequest i) now = refl
-  command_same tag event (command.AbandonDialog i) now = refl
+  command_same tag event _ now = refl
 
   -- ---- what comes up
 
@@ -193,9 +186,7 @@ module _ (state : State) (stories : Stories) where
   kind_same tag up (kind.Request request reply_to) now =
       arrival_same (arrival_of up request reply_to tag) now
   kind_same tag up (kind.Ack ack) now = ack_same (acknowledged_invite ack state.requests)
-  kind_same tag up (kind.Response response) now = refl
-  kind_same tag up kind.Timeout now = refl
-  kind_same tag up kind.Failed now = refl
+  kind_same tag up _ now = refl
 
   item_same : (tag : List ℕ) (event : Id) (one : Item) (now : ℕ)
       → Same stories (item_told state tag event one now stories)

@@ -299,11 +299,7 @@ by_place = None ∷ Some Calling ∷ Some Trying ∷ Some Proceeding ∷ Some Co
 
 placed : (state : State) → slice_get by_place (state_place (Some state)) ≡ Some (Some state)
 placed Calling = refl
-placed Trying = refl
-placed Proceeding = refl
-placed Completed = refl
-placed Accepted = refl
-placed Confirmed = refl
+placed _ = refl
 
 became : (state : State) (next : Next) (before : State) → becomes state next ≡ true
     → entered next (Some before) ≡ Some state

@@ -8,7 +8,7 @@ use Rattle.sip_message.specs.declared.key.Key.{Key}
 use Rattle.sip_timers.specs.Queue.{is_due}
 use Rattle.keyed_machine.specs.Machine.{Timed}
 use Rattle.sip_transactions.specs.declared.input.Input.{Input}
-use Rattle.sip_transactions.specs.declared.input.Input.TheVariants.{Receive, Start, Answer, Failed, Abandon}
+use Rattle.sip_transactions.specs.declared.input.Input.TheVariants.{Receive, Start}
 use Rattle.sip_transactions.specs.declared.life.Context.{Context}
 use Rattle.sip_transactions.specs.declared.life.Life.{Life}
 use Rattle.sip_transactions.specs.declared.output.Out.{Out}
@@ -273,12 +273,9 @@ Calm (Some context) = context.timers ≡ no_dues
 
 begun_calm : (role : Role) (input : Option Input) → Calm (begun role input)
 unfolding begun
-begun_calm role None = tt
 begun_calm role (Some (Receive id message reply_to)) = refl
 begun_calm role (Some (Start id call_id message to)) = refl
-begun_calm role (Some (Answer id message)) = tt
-begun_calm role (Some (Failed id)) = tt
-begun_calm role (Some Abandon) = tt
+begun_calm role _ = tt
 
 -- what is true of each life that a row can begin
 abbrev Begins : (State → Context → Type 0) → Timed Input → Step → Type 0

@@ -10,7 +10,7 @@ use Rattle.sip_message.specs.declared.message.Message.{Message}
 use Rattle.sip_message.specs.Written.{written}
 use Rattle.keyed_machine.specs.Machine.{Timed, outputs_from, state_from}
 use Rattle.sip_transactions.specs.declared.input.Input.{Input}
-use Rattle.sip_transactions.specs.declared.input.Input.TheVariants.{Receive, Start, Answer, Failed, Abandon}
+use Rattle.sip_transactions.specs.declared.input.Input.TheVariants.{Failed, Abandon}
 use Rattle.sip_transactions.specs.declared.life.Context.{Context}
 use Rattle.sip_transactions.specs.declared.life.Life.{Life}
 use Rattle.sip_transactions.specs.declared.output.Out.{Out}
@@ -63,12 +63,9 @@ handed_none : (key : Key) (context : Context) (handed : UpAction)
     (arrived : Option (Message × Addr))
     → last_send (option_to_list (handed_out key context handed arrived)) ≡ None
 unfolding handed_out
-handed_none key context up.Nothing arrived = refl
 handed_none key context up.Message None = refl
 handed_none key context up.Message (Some came) = refl
-handed_none key context up.Timeout arrived = refl
-handed_none key context up.Failed arrived = refl
-handed_none key context up.NoTransaction arrived = refl
+handed_none key context _ arrived = refl
 
 send_last : (key : Key) (to : Addr) (bytes : Option (List ℕ))
     → last_send (option_to_list (option_map (send_out key to) bytes))
@@ -167,12 +164,10 @@ asked_by : (held : Option Life) (now : ℕ) (input : Option Input) (trigger : Tr
 asked_by held now None trigger is asked =
     tick_trigger (λ t. is_asked t ≡ true → IsSome (message_in None)) (λ no_end. no_end)
     (λ no_repeat. no_repeat) held now trigger is asked
-asked_by held now (Some (Receive id message reply_to)) trigger is asked = refl
-asked_by held now (Some (Start id call_id message to)) trigger is asked = refl
-asked_by held now (Some (Answer id message)) trigger is asked = refl
 asked_by held now (Some (Failed id)) trigger is asked =
     let same : on.Failed ≡ trigger = cc in absurd (false≢true (ap is_asked same ∙ asked))
 asked_by held now (Some Abandon) trigger is asked = cc
+asked_by held now _ trigger is asked = refl
 
 -- a row enters such a state only from such a state, or by what it sends
 abbrev sends_first : Role → Option State → Trigger → Sent → State → Bool
@@ -186,9 +181,7 @@ sends_well role state trigger step =
 
 tables_send : (role : Role) → table_passes (sends_well role) (rows_of role) ≡ true
 tables_send InviteClient = refl
-tables_send Client = refl
-tables_send InviteServer = refl
-tables_send Server = refl
+tables_send _ = refl
 
 abbrev ResendsAfter : Key → Option Out → Option Life × List Out → Type 0
 ResendsAfter key latest after =

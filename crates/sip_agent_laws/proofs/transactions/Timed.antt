@@ -104,18 +104,12 @@ ending_after (Again pace) before = before
 repeat-rearmed : (due : Due) (now : ℕ) (dues : Dues)
     → is_some (rearmed due now dues).repeat ≡ repeat_after due (is_some dues.repeat)
 repeat-rearmed Keep now dues = refl
-repeat-rearmed Clear now dues = refl
-repeat-rearmed (Ending after) now dues = refl
-repeat-rearmed Both now dues = refl
-repeat-rearmed (Again pace) now dues = refl
+repeat-rearmed _ now dues = refl
 
 ending-rearmed : (due : Due) (now : ℕ) (dues : Dues)
     → is_some (rearmed due now dues).ending ≡ ending_after due (is_some dues.ending)
 ending-rearmed Keep now dues = refl
-ending-rearmed Clear now dues = refl
-ending-rearmed (Ending after) now dues = refl
-ending-rearmed Both now dues = refl
-ending-rearmed (Again pace) now dues = refl
+ending-rearmed _ now dues = refl
 
 pub implied : (a b : Bool) → a ≡ true → (not a || b) ≡ true → b ≡ true
 implied true b on ok = ok
