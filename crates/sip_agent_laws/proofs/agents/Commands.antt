@@ -40,19 +40,14 @@ use Rattle.sip_round.specs.Outputs.{command_of}
 use Rattle.sip_agent_laws.specs.Agents.Open.{is_open}
 use Rattle.sip_agent_laws.proofs.agents.Lists.{Among, among_flat}
 use Rattle.sip_agent_laws.proofs.agents.OpenLives.{IsBegun, IsKept, is_server, lives_on, opens}
+use Rattle.sip_agent_laws.proofs.transactions.Told.{finals}
 
 -- ---- a final answer
-
-abbrev ends : Class → Bool
-ends class.Trying = false
-ends class.Provisional = false
-ends class.Success = true
-ends class.Failure = true
 
 abbrev then_state : Next → State → Option State
 then_state next state = elim next [ Same ↦ Some state | Ended ↦ None | Become new ↦ Some new ]
 
-closed : (invite : Bool) (state : State) (c : Class) → ends c ≡ true
+closed : (invite : Bool) (state : State) (c : Class) → finals c ≡ true
     → opens (if invite then role.InviteServer else role.Server)
     (then_state ((if invite then invite_server else server) (Some state) (on.Answer c)).next state)
     ≡ false
@@ -85,7 +80,7 @@ closed false Confirmed class.Failure end = refl
 
 end_status : (trying provisional success : Bool) (status : ℕ) → (status == 100) ≡ trying
     → nat_lt status 200 ≡ provisional → nat_le 200 status ≡ true
-    → ends (if trying then class.Trying else if provisional then class.Provisional
+    → finals (if trying then class.Trying else if provisional then class.Provisional
     else if success then class.Success else class.Failure) ≡ true
 end_status true provisional success status is small final =
     absurd (grind (arith, common_steps, is, final))

@@ -1,19 +1,16 @@
 -- After any rounds each transaction without a final response belongs to a call that holds its
 -- request.
 use Rattle.std.proofs.Common.{◌≡◌, ℕ, suc, ◌≤◌, List, [], ◌∷◌, ◌++◌, refl, sym, ap, ◌∙◌, append-nil, append_assoc, subst}
-use Rattle.std.specs.Prelude.{Option, None}
+use Rattle.std.specs.Prelude.{None}
 use Rattle.std.proofs.lemmas.Grind.{flat_map-append}
 use Rattle.sip_message.specs.declared.id.Id.{Id}
 use Rattle.sip_message.specs.declared.key.Key.{Key}
-use Rattle.keyed_machine.specs.Machine.{Timed, state_from, tick_at}
+use Rattle.keyed_machine.specs.Machine.{Timed, tick_at}
 use Rattle.keyed_machine.specs.Phase.{Phase, history, inputs_of, own_inputs, timed_items}
 use Rattle.sip_held_dialogs.proofs.Starts.{starts}
-use Rattle.sip_calls.specs.declared.call.Call.{Call}
-use Rattle.sip_calls.specs.declared.calls.Calls.{Calls}
-use Rattle.sip_calls.specs.Call.{CallItem, call_machine, call_step}
+use Rattle.sip_calls.specs.Call.{CallItem, call_step}
 use Rattle.sip_calls.specs.CallShard.{call_cmp}
 use Rattle.sip_calls.specs.HeldById.{RequestsRise}
-use Rattle.sip_calls.specs.Histories.{call_from}
 use Rattle.sip_calls.proofs.CallStarts.{how_many, ids_of}
 use Rattle.sip_round.specs.declared.config.Config.{Config}
 use Rattle.sip_round.specs.declared.round.Round.{Round}
@@ -28,12 +25,7 @@ use Rattle.sip_agent_laws.proofs.agents.Linked.{IsLinked, calls_in, linked_after
 use Rattle.sip_agent_laws.proofs.agents.Lists.{Among, among_left}
 use Rattle.sip_agent_laws.proofs.agents.SecondPhase.{fewer_counted}
 use Rattle.sip_agent_laws.proofs.agents.Sound.{Behind, first_rise, one_more}
-
-pub same_call : (calls : Calls) (key : List ℕ) (state : Option Call) (inputs : List (Timed CallItem))
-    → call_from calls state inputs ≡ state_from (call_machine calls) key state inputs
-same_call calls key state [] = refl
-same_call calls key state (input ∷ inputs) =
-    same_call calls key (call_step calls state input.input input.moment).0 inputs
+use Rattle.sip_agent_laws.proofs.histories.CallsAfter.{same_call}
 
 abbrev pub given_to : List (Phase (List ℕ) (Timed CallItem)) → List ℕ → List (Timed CallItem)
 given_to phases q = history call_cmp tick_at phases q

@@ -54,10 +54,11 @@ use Rattle.sip_agent_laws.specs.Agents.NothingLeft.{NoTransactionStays, NothingS
 use Rattle.sip_agent_laws.specs.Agents.Open.{HoldsInvite, HoldsOfPeer, HoldsOpen, is_open, life_after}
 use Rattle.sip_agent_laws.proofs.agents.Idle.{inside_only}
 use Rattle.sip_agent_laws.proofs.agents.Linked.{calls_in}
-use Rattle.sip_agent_laws.proofs.agents.LinkedRounds.{given_to, own, same_call}
+use Rattle.sip_agent_laws.proofs.agents.LinkedRounds.{given_to, own}
 use Rattle.sip_agent_laws.proofs.agents.Lists.{Among, found_among, found_passes, same_some}
 use Rattle.sip_agent_laws.proofs.agents.OpenHeld.{each_open_is_held}
 use Rattle.sip_agent_laws.proofs.agents.RestFrom.{at_rest, calls_longer}
+use Rattle.sip_agent_laws.proofs.histories.CallsAfter.{same_call}
 
 -- ---- the client requests of a call after a tick or a report
 

@@ -50,11 +50,12 @@ use Rattle.sip_agent_laws.proofs.agents.Commands.{ordered, run, orders, run_keep
 use Rattle.sip_agent_laws.proofs.agents.HasTransaction.{HaveTransactions, has_next, none_have, tick_asks, tick_harmless}
 use Rattle.sip_agent_laws.proofs.agents.Idle.{all_own, inside_only, no_arrivals, reports_silent}
 use Rattle.sip_agent_laws.proofs.agents.Linked.{after_is, calls_in, first_items, given, given_is, lives_between, lives_in, lives_ticked, second_items, second_ticks}
-use Rattle.sip_agent_laws.proofs.agents.LinkedRounds.{IsFair, all_fair, behind_now, fair_next, given_to, own, own_so_far, same_call}
+use Rattle.sip_agent_laws.proofs.agents.LinkedRounds.{IsFair, all_fair, behind_now, fair_next, given_to, own, own_so_far}
 use Rattle.sip_agent_laws.proofs.agents.Lists.{both}
 use Rattle.sip_agent_laws.proofs.agents.SecondPhase.{among_orders}
 use Rattle.sip_agent_laws.proofs.agents.ServedFrom.{IsEarly}
 use Rattle.sip_agent_laws.proofs.agents.ServerLives.{Shuts, ends_answered, shut_on, waits_answered}
+use Rattle.sip_agent_laws.proofs.histories.CallsAfter.{same_call}
 
 -- ---- lists
 

@@ -6,7 +6,7 @@ use Rattle.std.specs.BTreeMap.{is_at}
 use Rattle.std.specs.List.{AllByRecursion, flat_map}
 use Rattle.std.proofs.lemmas.Bool.{false≢true}
 use Rattle.std.proofs.lemmas.Cmp.{nat_list_cmp_total}
-use Rattle.std.proofs.lemmas.Grind.{common_steps, flat_map-append}
+use Rattle.std.proofs.lemmas.Grind.{flat_map-append}
 use Rattle.std.proofs.lemmas.List.{map-append}
 use Rattle.std.proofs.lemmas.List.Elements.{filter_map-append}
 use Rattle.std.proofs.lemmas.Map.Lookups.{exact_bytes}
@@ -129,13 +129,10 @@ none_under id (out.Command own (order.Start key of message to) ∷ outs) never =
   none_under id outs (λ key among. never key (inr among)),
 )
 
-id_itself : (id : Id) → is_id id id ≡ true
-id_itself id = grind (arith, common_steps)
-
 pub some_counted : (x : Id) (ids : List Id) → Among ids x → 1 ≤ how_many x ids
 some_counted x [] among = absurd among
 some_counted x (y ∷ ys) (inl same) =
-    omega (arith, counted_one x y ys (ap (λ z. is_id x z) same ∙ id_itself x))
+    omega (arith, counted_one x y ys (ap (λ z. is_id x z) same ∙ client_side.id_itself x))
 some_counted x (y ∷ ys) (inr later) = omega (arith, counted x y ys, some_counted x ys later)
 
 pub among_ids : (xs : List (Id × Key)) (x : Id) (key : Key) → Among xs (x, key)

@@ -39,7 +39,7 @@ use Rattle.sip_served.specs.declared.held_request.HeldRequest.{HeldRequest}
 use Rattle.sip_served.specs.declared.held_request.Success.{Success}
 use Rattle.sip_served.specs.Rules.Arrivals.{after_487, after_ack, after_prack, after_request, ack_for, ack_received, bad_extension, awaits, cancel_for, cancel_received, is_above, is_merged, is_named_by, is_same_branch, no_such_call, prack_for, prack_received, request_for_user, request_in_dialog, request_received, own_response}
 use Rattle.sip_served.specs.Rules.Responses.{dialogs_after, held_after, is_sent_reliably, makes_dialog, refuse, respond_command, respond_to, response_refusal, response_sent, success_sent, is_dialog_response}
-use Rattle.sip_served.specs.Rules.Ticks.{provisionals_tick, server_tick, success_at, success_tick}
+use Rattle.sip_served.specs.Rules.Ticks.{server_tick, success_at}
 use Rattle.sip_served.specs.declared.held_request.SuccessEnd.{SuccessEnd}
 use Rattle.sip_served.specs.declared.held_request.SuccessEnd.TheVariants.{Acknowledged, GivenUp}
 use Rattle.sip_served.specs.State.{State, ServedTaken, changed_at, has_id}
@@ -52,6 +52,7 @@ use Rattle.sip_message.specs.declared.addr.Addr.{Addr}
 use Rattle.sip_message.specs.Content.{with_content_of}
 use Rattle.sip_round.specs.Outputs.{command_of}
 use Rattle.sip_dialog.specs.Request.{contact_of}
+use Rattle.sip_agent_laws.proofs.calls.ServedBounds.{ticked}
 
 -- ---- what happens to a request
 
@@ -713,13 +714,6 @@ success_left now held (Some was) success =
     (ap (λ (s : Success). s.over) (same_some _ success is) ∙ none)))
     (λ l. by_if P (is_none was.over && nat_le was.retransmission.due now) _ _
     (λ due. so _ refl refl) (λ d. so was refl refl))
-
--- a request after a tick, if it stays
-abbrev ticked : ℕ → HeldRequest → HeldRequest
-ticked now held = record held {
-  ledger = (provisionals_tick now held).0;
-  success = (success_tick now held).0;
-}
 
 abbrev stays_at : ℕ → HeldRequest → Bool
 stays_at now held = option_map_or (λ moment. nat_lt now moment) held.removal true

@@ -66,12 +66,13 @@ use Rattle.sip_agent_laws.specs.Agents.NothingLeft.{IsSettled}
 use Rattle.sip_agent_laws.specs.Agents.UserEnds.{EndsWhatWaits, GivesUp, IsEnding, SomeCommand, UserEndsAgent, UserEndsTransactions}
 use Rattle.sip_agent_laws.proofs.agents.Idle.{IsReport, all_joined, report_inside, tick_reports}
 use Rattle.sip_agent_laws.proofs.agents.Linked.{first_ticks, first_told, items_are, lives_in}
-use Rattle.sip_agent_laws.proofs.agents.LinkedRounds.{given_to, same_call}
+use Rattle.sip_agent_laws.proofs.agents.LinkedRounds.{given_to}
 use Rattle.sip_agent_laws.proofs.agents.Lists.{by_found, front_of, same_some}
 use Rattle.sip_agent_laws.proofs.agents.NothingLeft.{AllAre, AreInvites, call_on, from_keeps, invites_alone, kept_all, no_transaction_stays, nothing_stays, step_keeps}
 use Rattle.sip_agent_laws.proofs.agents.RestFrom.{all_goes, calls_longer}
 use Rattle.sip_agent_laws.proofs.agents.Sound.{one_more}
 use Rattle.sip_agent_laws.proofs.agents.ClientsHeld.{id_itself}
+use Rattle.sip_agent_laws.proofs.histories.CallsAfter.{same_call}
 
 -- ---- the items of a round of commands
 

@@ -79,7 +79,7 @@ no_refusal e = absurd (true≢false e)
 
 -- ---- the ends of dialogs are told
 
-ends_stay : (dialogs : List HeldDialog) → goes_out (map ended_notice dialogs) ≡ []
+pub ends_stay : (dialogs : List HeldDialog) → goes_out (map ended_notice dialogs) ≡ []
 ends_stay [] = refl
 ends_stay (held ∷ dialogs) = ends_stay dialogs
 

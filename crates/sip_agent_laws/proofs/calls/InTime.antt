@@ -34,7 +34,7 @@ use Rattle.sip_agent_laws.proofs.calls.ServedBounds.{ticked}
 
 -- ---- what is removed
 
-later_same : (now : ℕ) (o : Option ℕ)
+pub later_same : (now : ℕ) (o : Option ℕ)
     → option_map_or (λ moment. nat_lt now moment) o true ≡ not (has_come now o)
 later_same now None = refl
 later_same now (Some moment) = grind (arith, common_steps)
@@ -42,7 +42,7 @@ later_same now (Some moment) = grind (arith, common_steps)
 abbrev ids : List HeldRequest → List Id
 ids requests = map (λ held. held.id) requests
 
-abbrev left : ℕ → List HeldRequest → List HeldRequest
+abbrev pub left : ℕ → List HeldRequest → List HeldRequest
 left now requests =
     filter (λ held. option_map_or (λ moment. nat_lt now moment) held.removal true)
     (map (ticked now) requests)

@@ -91,7 +91,7 @@ module _ (P : CallOut → Type 0) (allows : AllowsServed P Any) where
       respond_passes state id respond now
   served_passes state tag id (User _) now = tt
 
-  tick_passes : (state : State) (now : ℕ) → AllByRecursion P (tick_taken state now).1
+  pub tick_passes : (state : State) (now : ℕ) → AllByRecursion P (tick_taken state now).1
   tick_passes state now = (server_tick P Any Any allows any_own state now (any_state state)).1
 
 -- a tick, also of the client side

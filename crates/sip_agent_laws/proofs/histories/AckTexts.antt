@@ -4,7 +4,6 @@ use Rattle.std.specs.Prelude.{Contains, IfSome, Option, None, Some}
 use Rattle.std.specs.List.{AllByRecursion}
 use Rattle.std.proofs.lemmas.List.Elements.{Contains-append_cases, Contains-push_cases}
 use Rattle.sip_message.specs.declared.addr.Addr.{Addr}
-use Rattle.sip_message.specs.declared.message.Message.{Message}
 use Rattle.keyed_machine.specs.Laws.{EachKeyAlone}
 use Rattle.keyed_machine.specs.Machine.{Timed, outputs_from, tick_at}
 use Rattle.sip_transactions.specs.declared.output.UpKind.{UpKind}
@@ -16,13 +15,9 @@ use Rattle.sip_user.specs.declared.item.CallOut.{CallOut}
 use Rattle.sip_user.specs.declared.item.CallOut.TheVariants as out
 use Rattle.sip_user.specs.declared.item.Item.TheVariants.{Up, User}
 use Rattle.sip_held_dialogs.proofs.Each.{both}
-use Rattle.sip_served.specs.State.{State}
 use Rattle.sip_served.specs.Step.{kind_taken}
 use Rattle.sip_served.specs.Tick.{tick_taken}
-use Rattle.sip_served.specs.declared.held_request.HeldRequest.{HeldRequest}
-use Rattle.sip_served.specs.declared.held_request.Success.{Success}
-use Rattle.sip_served.specs.declared.provisionals.ReliableResponse.{ReliableResponse}
-use Rattle.sip_served.proofs.ServedAnswers.{AllowsServed, KeepsGiven, KindGiven, OwnAnswers, StateGiven, kind_fits, respond_fits, server_tick}
+use Rattle.sip_served.proofs.ServedAnswers.{AllowsServed}
 use Rattle.sip_clients.specs.Tick.{clients_ticked}
 use Rattle.sip_clients.specs.declared.event.Event.{Event}
 use Rattle.sip_clients.proofs.ClientAsks.{AskAll, OutSays, abandon_dialog_says, abandon_request_says, ack_command_says, cancel_says, clients_tick_says, command_says, invite_says, lost_says, plain_says, prack_command_says, response_says}
@@ -39,10 +34,7 @@ use Rattle.sip_round.specs.declared.config.Config.{Config}
 use Rattle.sip_round.specs.declared.round.Round.{Round}
 use Rattle.sip_round.proofs.Said.{call_alone}
 use Rattle.sip_agent_laws.specs.Histories.DirectSends.{IsAckText}
-
--- nothing is required of requests and answers here
-abbrev pub Any : Message → Type 0
-Any message = Unit {0}
+use Rattle.sip_agent_laws.proofs.calls.ServerOuts.{Any, kind_passes, respond_passes, tick_passes}
 
 abbrev Say : List CallOut → Type 0
 Say outs = AllByRecursion (OutSays Any) outs
@@ -51,47 +43,6 @@ Say outs = AllByRecursion (OutSays Any) outs
 
 allows_served : AllowsServed (OutSays Any) Any
 allows_served = record { told = λ one other. tt; answer = λ id key {message} here. tt }
-
-pub any_own : OwnAnswers Any Any
-any_own = record {
-  merged = λ request tag came. tt;
-  extension = λ request tag came. tt;
-  no_dialog = λ request tag came. tt;
-  out_of_order = λ request tag came. tt;
-  accepted = λ request tag came. tt;
-  terminated = λ request tag came. tt;
-}
-
-pub any_kind : (k : UpKind) → KindGiven Any k
-any_kind (kind.Request request reply_to) = tt
-any_kind _ = tt
-
-any_success : (o : Option Success) → IfSome o (λ success. Any success.response)
-any_success None = tt
-any_success (Some success) = tt
-
-any_provisionals : (responses : List ReliableResponse)
-    → AllByRecursion (λ one. Any one.response) responses
-any_provisionals [] = tt
-any_provisionals (one ∷ responses) = (tt, any_provisionals responses)
-
-module _ (P : CallOut → Type 0) (allows : AllowsServed P Any) where
-  any_requests : (requests : List HeldRequest) → AllByRecursion (KeepsGiven P Any Any allows) requests
-  any_requests [] = tt
-  any_requests (held ∷ requests) = (
-    record {
-      request = tt;
-      success = any_success held.success;
-      provisionals = any_provisionals held.provisionals;
-    },
-    any_requests requests,
-  )
-
-  pub any_state_of : (state : State) → StateGiven P Any Any allows state
-  any_state_of state = any_requests state.requests
-
-any_state : (state : State) → StateGiven (OutSays Any) Any Any allows_served state
-any_state state = any_state_of (OutSays Any) allows_served state
 
 -- ---- one input
 
@@ -102,8 +53,7 @@ CallSays taken = AskAll (taken.0).clients × Say taken.1
 served_says : (call : Call) (event : Event) (up : AnUp) (k : UpKind)
     → Say (by_server call (kind_taken call.served (made_tag event) up k event.moment)).1
 served_says call event up k =
-    (kind_fits (OutSays Any) Any Any allows_served any_own call.served (made_tag event) up k
-    event.moment (any_kind k) (any_state call.served)).1
+    kind_passes (OutSays Any) allows_served call.served (made_tag event) up k event.moment
 
 up_says : (call : Call) (event : Event) (up : AnUp) (k : UpKind) → AskAll call.clients
     → CallSays (up_taken call event up k)
@@ -131,8 +81,7 @@ user_says call event (user.Request request) all =
     command_says Any event request (side_of call) all
 user_says call event (user.Respond respond) all = (
   all,
-  (respond_fits (OutSays Any) Any Any allows_served any_own call.served event.id respond
-      event.moment (λ local held came. tt) (any_state call.served)).1,
+  respond_passes (OutSays Any) allows_served call.served event.id respond event.moment,
 )
 user_says call event (user.Ack ack) all = ack_command_says Any event ack (side_of call) all
 user_says call event (user.Prack prack) all =
@@ -149,8 +98,7 @@ tick_says call now all =
     let so = clients_tick_says Any (side_of first.0) now all in (
       so.0,
       both (OutSays Any) first.1 (clients_ticked (side_of first.0) now).1
-          (server_tick (OutSays Any) Any Any allows_served any_own call.served now
-          (any_state call.served)).1 so.1,
+          (tick_passes (OutSays Any) allows_served call.served now) so.1,
     )
 
 abbrev HeldAsks : Option Call → Type 0

@@ -12,7 +12,7 @@ use Rattle.sip_round.specs.Laws.{call_inputs_of}
 use Rattle.sip_round.specs.declared.config.Config.{Config}
 use Rattle.sip_round.specs.declared.round.Round.{Round}
 
-same_call : (calls : Calls) (key : List ℕ) (state : Option Call) (inputs : List (Timed CallItem))
+pub same_call : (calls : Calls) (key : List ℕ) (state : Option Call) (inputs : List (Timed CallItem))
     → call_from calls state inputs ≡ state_from (call_machine calls) key state inputs
 same_call calls key state [] = refl
 same_call calls key state (input ∷ inputs) =

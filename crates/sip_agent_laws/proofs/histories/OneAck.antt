@@ -40,7 +40,7 @@ use Rattle.sip_held_dialogs.proofs.Entries as entries
 use Rattle.sip_held_dialogs.proofs.Heard.{name_laws}
 use Rattle.sip_served.specs.Step.{kind_taken}
 use Rattle.sip_served.specs.Tick.{tick_taken}
-use Rattle.sip_served.proofs.ServedAnswers.{AllowsServed, kind_fits, respond_fits, server_tick}
+use Rattle.sip_served.proofs.ServedAnswers.{AllowsServed}
 use Rattle.sip_clients.specs.Answers.{ack_of, has_answer}
 use Rattle.sip_clients.specs.Client.{Clients, ClientTaken, Side, client_at}
 use Rattle.sip_clients.specs.ClientLife.{ack_in, acks_out}
@@ -74,7 +74,7 @@ use Rattle.sip_calls.proofs.KeptSides.{kept_side}
 use Rattle.sip_calls.proofs.SameSteps.{same_step}
 use Rattle.sip_agent_laws.specs.Histories.OneAck.{BringsSuccess, OneAckAnInput, SendsAck, is_held_in}
 use Rattle.sip_agent_laws.specs.Histories.OneAck.SendsAck.{Again, AtFirst, ByUser}
-use Rattle.sip_agent_laws.proofs.histories.AckTexts.{Any, any_kind, any_own, any_state_of}
+use Rattle.sip_agent_laws.proofs.calls.ServerOuts.{Any, kind_passes, respond_passes, tick_passes}
 
 acks_append : (outs more : List CallOut) → acks_out (outs ++ more) ≡ acks_out outs ++ acks_out more
 acks_append outs more = filter_map-append ack_in outs more
@@ -98,8 +98,7 @@ served_none : (call : Call) (event : Event) (up : AnUp) (k : UpKind)
     → acks_out (by_server call (kind_taken call.served (made_tag event) up k event.moment)).1 ≡ []
 served_none call event up k =
     none_of (kind_taken call.served (made_tag event) up k event.moment).1
-    (kind_fits IsNoAck Any Any no_ack_served any_own call.served (made_tag event) up k
-    event.moment (any_kind k) (any_state_of IsNoAck no_ack_served call.served)).1
+    (kind_passes IsNoAck no_ack_served call.served (made_tag event) up k event.moment)
 
 -- ---- what is sent with a transaction is no ACK
 
@@ -525,8 +524,7 @@ module _ (before : Option Call) (call : Call) (same : side_held before ≡ side_
   user_law event id (user.Request request) = inl (request_no_ack event request (side_of call))
   user_law event id (user.Respond respond) =
       inl (none_of (command_taken call event (user.Respond respond)).1
-      (respond_fits IsNoAck Any Any no_ack_served any_own call.served event.id respond
-      event.moment (λ local held came. tt) (any_state_of IsNoAck no_ack_served call.served)).1)
+      (respond_passes IsNoAck no_ack_served call.served event.id respond event.moment))
   user_law event id (user.Ack ack) = ack_law event id ack
   user_law event id (user.Prack prack) = inl (prack_no_ack event prack (side_of call))
   user_law event id (user.Cancel cancel) = inl (cancel_no_ack event cancel (side_of call))
@@ -540,8 +538,7 @@ module _ (before : Option Call) (call : Call) (same : side_held before ≡ side_
       let first = by_server call (tick_taken call.served now) in
       inl (acks_append first.1 (clients_ticked (side_of first.0) now).1
       ∙ (λ i. none_of first.1
-      (server_tick IsNoAck Any Any no_ack_served any_own call.served now
-      (any_state_of IsNoAck no_ack_served call.served)).1 i
+      (tick_passes IsNoAck no_ack_served call.served now) i
       ++ tick_no_ack now (side_of first.0) i))
 
 taken_law : (calls : Calls) (call : Option Call) (input : Option CallItem) (now : ℕ)

@@ -30,8 +30,8 @@ use Rattle.sip_calls.proofs.RequestHistories.{holds_its_stories}
 use Rattle.sip_agent_laws.proofs.calls.ServedBounds.{ticked}
 use Rattle.sip_agent_laws.specs.Repeats.Later.{DueLater}
 use Rattle.sip_agent_laws.specs.Repeats.Repeats.{is_due, is_provisional_due, provisionals_due, success_due}
-use Rattle.sip_agent_laws.proofs.repeats.Next.{left, not_due}
-use Rattle.sip_agent_laws.proofs.repeats.Repeats.{none_due}
+use Rattle.sip_agent_laws.proofs.calls.InTime.{left}
+use Rattle.sip_agent_laws.proofs.repeats.Repeats.{none_due, not_due}
 
 -- ---- the interval of a 2xx isn't 0
 
@@ -80,7 +80,7 @@ module _ (now : ℕ) (held : HeldRequest) where
       }) (ap (λ b. is_none success.over && nat_lt now success.end && b)
       (later success.retransmission.interval paced)
       ∙ and_right (is_none success.over && nat_lt now success.end) false refl)))
-      (λ f. rw (e, f) (not_again success (not_due now held success f))))
+      (λ f. rw (e, f) (not_again success (not_due now success f))))
 
   -- ---- the reliable provisional responses
 

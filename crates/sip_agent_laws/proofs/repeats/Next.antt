@@ -1,10 +1,9 @@
 -- When a response goes out next, after a tick.
-use Rattle.std.proofs.Common.{◌≡◌, ℕ, Bool, true, false, not, ◌&&◌, cond, List, [], ◌∷◌, map, nat_le, nat_lt, refl, ap, ◌∙◌, arith}
-use Rattle.std.specs.Prelude.{Option, None, Some, filter, is_none}
+use Rattle.std.proofs.Common.{◌≡◌, ℕ, Bool, true, false, not, ◌&&◌, cond, List, [], ◌∷◌, map, nat_le, nat_lt, refl, ap, ◌∙◌}
+use Rattle.std.specs.Prelude.{Option, None, Some, is_none}
 use Rattle.std.specs.List.{list_any}
 use Rattle.std.specs.Option.{option_map, option_map_or}
 use Rattle.std.proofs.lemmas.Bool.{false≢true, true≢false}
-use Rattle.std.proofs.lemmas.Grind.{common_steps}
 use Rattle.keyed_machine.proofs.Ordered.{by_bool}
 use Rattle.sip_reliable.specs.Ledger.{Ledger}
 use Rattle.sip_reliable.specs.Provisional.{is_late}
@@ -21,19 +20,10 @@ use Rattle.sip_calls.proofs.HeldRequests.{kept_requests}
 use Rattle.sip_agent_laws.specs.Calls.InTime.{has_come}
 use Rattle.sip_agent_laws.proofs.calls.ServedBounds.{ticked}
 use Rattle.sip_agent_laws.specs.Repeats.Next.{ProvisionalsNext, SuccessesNext, left_at, provisionals_next, success_next}
-use Rattle.sip_agent_laws.specs.Repeats.Repeats.{is_due}
+use Rattle.sip_agent_laws.proofs.calls.InTime.{later_same, left}
+use Rattle.sip_agent_laws.proofs.repeats.Repeats.{ended, due, not_due}
 
 -- ---- what is left
-
-later_same : (now : ℕ) (o : Option ℕ)
-    → option_map_or (λ moment. nat_lt now moment) o true ≡ not (has_come now o)
-later_same now None = refl
-later_same now (Some moment) = grind (arith, common_steps)
-
-abbrev pub left : ℕ → List HeldRequest → List HeldRequest
-left now requests =
-    filter (λ held. option_map_or (λ moment. nat_lt now moment) held.removal true)
-    (map (ticked now) requests)
 
 module _ {X : Type 0} (now : ℕ) (after before : HeldRequest → X)
     (one : (held : HeldRequest) → after (ticked now held) ≡ before held) where
@@ -67,29 +57,15 @@ module _ (now : ℕ) (held : HeldRequest) where
   abbrev moment_of : Option Success → Option Retransmission
   moment_of o = option_map (λ (success : Success). success.retransmission) o
 
-  pub ended : (success : Success) → (is_none success.over && nat_le success.end now) ≡ true
-      → is_due now success ≡ false
-  ended success e = grind (arith, common_steps)
-
-  pub due : (success : Success) → (is_none success.over && nat_le success.end now) ≡ false
-      → (is_none success.over && nat_le success.retransmission.due now) ≡ true
-      → is_due now success ≡ true
-  due success e f = grind (arith, common_steps)
-
-  pub not_due : (success : Success)
-      → (is_none success.over && nat_le success.retransmission.due now) ≡ false
-      → is_due now success ≡ false
-  not_due success f = grind (arith, common_steps)
-
   success_so : (o : Option Success)
       → moment_of (option_map_or (success_at now held) o (None, [])).0
       ≡ option_map (success_next now) o
   success_so None = refl
   success_so (Some success) =
       by_bool (is_none success.over && nat_le success.end now)
-      (λ e. rw (e, ended success e) refl)
+      (λ e. rw (e, ended now success e) refl)
       (λ e. by_bool (is_none success.over && nat_le success.retransmission.due now)
-      (λ f. rw (e, f, due success e f) refl) (λ f. rw (e, f, not_due success f) refl))
+      (λ f. rw (e, f, due now success e f) refl) (λ f. rw (e, f, not_due now success f) refl))
 
   -- ---- the reliable provisional responses
 

@@ -16,8 +16,7 @@ use Rattle.sip_user.specs.declared.item.CallOut.{CallOut}
 use Rattle.sip_user.specs.declared.item.CallOut.TheVariants as out
 use Rattle.sip_user.specs.declared.item.CallOut.TheVariants.{Command}
 use Rattle.sip_user.specs.declared.notice.Notice.{Notice}
-use Rattle.sip_held_dialogs.specs.declared.held_dialog.HeldDialog.{HeldDialog}
-use Rattle.sip_held_dialogs.specs.Dialogs.{Dialogs, early_ended, ended_notice, is_early_of}
+use Rattle.sip_held_dialogs.specs.Dialogs.{Dialogs, early_ended, is_early_of}
 use Rattle.sip_served.specs.declared.held_request.HeldRequest.{HeldRequest}
 use Rattle.sip_served.specs.declared.held_request.Success.{Success}
 use Rattle.sip_served.specs.declared.provisionals.ReliableResponse.{ReliableResponse}
@@ -26,6 +25,7 @@ use Rattle.sip_clients.specs.declared.client.Client.{Client}
 use Rattle.sip_clients.specs.Rules.Ends.{client_tick, is_over}
 use Rattle.sip_agent_laws.specs.Calls.Commanded.{goes_out, is_notice}
 use Rattle.sip_agent_laws.specs.Repeats.Repeats.{SentAgain, is_due, provisionals_due, responses_to, success_due}
+use Rattle.sip_agent_laws.proofs.calls.Commanded.{ends_stay}
 
 -- ---- what goes out of a list of outputs
 
@@ -39,10 +39,6 @@ all_go_out held (response ∷ responses) =
     ap (λ rest. Command held.id (Answer held.key response) ∷ rest) (all_go_out held responses)
 
 -- nothing goes out by the ends of dialogs
-ends_stay : (dialogs : List HeldDialog) → goes_out (map ended_notice dialogs) ≡ []
-ends_stay [] = refl
-ends_stay (held ∷ dialogs) = ends_stay dialogs
-
 over_stay : (dialogs : Dialogs) (clients : List Client)
     → goes_out (flat_map (λ client. (early_ended client.id dialogs).1) clients) ≡ []
 over_stay dialogs [] = refl
@@ -54,29 +50,29 @@ over_stay dialogs (client ∷ clients) =
 
 -- ---- one request
 
+pub ended : (now : ℕ) (success : Success) → (is_none success.over && nat_le success.end now) ≡ true
+    → is_due now success ≡ false
+ended now success e = grind (arith, common_steps)
+
+pub due : (now : ℕ) (success : Success) → (is_none success.over && nat_le success.end now) ≡ false
+    → (is_none success.over && nat_le success.retransmission.due now) ≡ true
+    → is_due now success ≡ true
+due now success e f = grind (arith, common_steps)
+
+pub not_due : (now : ℕ) (success : Success)
+    → (is_none success.over && nat_le success.retransmission.due now) ≡ false
+    → is_due now success ≡ false
+not_due now success f = grind (arith, common_steps)
+
 module _ (now : ℕ) (held : HeldRequest) where
   success_sent : (success : Success) → goes_out (success_at now held success).1
       ≡ responses_to held
       (map (λ (s : Success). s.response) (filter (is_due now) (option_to_list (Some success))))
   success_sent success =
       by_bool (is_none success.over && nat_le success.end now)
-      (λ e. rw (e, ended success e) refl)
+      (λ e. rw (e, ended now success e) refl)
       (λ e. by_bool (is_none success.over && nat_le success.retransmission.due now)
-      (λ f. rw (e, f, due success e f) refl) (λ f. rw (e, f, not_due success f) refl))
-    where
-      ended : (success : Success) → (is_none success.over && nat_le success.end now) ≡ true
-          → is_due now success ≡ false
-      ended success e = grind (arith, common_steps)
-
-      due : (success : Success) → (is_none success.over && nat_le success.end now) ≡ false
-          → (is_none success.over && nat_le success.retransmission.due now) ≡ true
-          → is_due now success ≡ true
-      due success e f = grind (arith, common_steps)
-
-      not_due : (success : Success)
-          → (is_none success.over && nat_le success.retransmission.due now) ≡ false
-          → is_due now success ≡ false
-      not_due success f = grind (arith, common_steps)
+      (λ f. rw (e, f, due now success e f) refl) (λ f. rw (e, f, not_due now success f) refl))
 
   successes_sent : (o : Option Success)
       → goes_out (option_map_or (success_at now held) o (None, [])).1

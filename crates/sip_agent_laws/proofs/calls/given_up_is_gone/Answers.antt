@@ -7,11 +7,12 @@ use Rattle.sip_calls.specs.Histories.{call_from}
 use Rattle.sip_round.specs.Answers.{calls_of, past_of}
 use Rattle.sip_round.proofs.RequestsDiffer.{requests_differ}
 use Rattle.sip_agent_laws.specs.Calls.Waiting.{NothingWaits, waits}
-use Rattle.sip_agent_laws.proofs.agents.LinkedRounds.{given_to, same_call}
+use Rattle.sip_agent_laws.proofs.agents.LinkedRounds.{given_to}
 use Rattle.sip_agent_laws.proofs.calls.AtRest.{from_both}
 use Rattle.sip_agent_laws.proofs.calls.Ended.{dialog_given_up, ending_ends, request_given_up, user_ends_all}
 use Rattle.sip_agent_laws.proofs.calls.Waits.{ending_adds_nothing, others_add_nothing}
 use Rattle.sip_agent_laws.proofs.calls.given_up_is_gone.Goals as goal
+use Rattle.sip_agent_laws.proofs.histories.CallsAfter.{same_call}
 
 pub returns-clause-request : goal.returns-clause-request
 returns-clause-request c = request_given_up
