@@ -5,7 +5,7 @@ ends.py LIBRARY [TRIALS [SESSION..]]: random datagrams, commands, failed sends a
 request that came up gets a 486, each request that was sent and each dialog is given up, and time
 passes. After that an agent has to hold nothing: no transaction, no call, no timer. So it is for one
 that goes on from the rounds of that one, if what `held_by` lists is ended alone. Nor may an agent
-hold anything at the end of the session files that are named, 64 s after their last round. The
+hold anything at the end of the session files that are named, 32 s after their last round. The
 status is 0 if that is so.
 """
 
@@ -152,7 +152,7 @@ class Trial:
 
     def left(self, agent: ua.Agent) -> Optional[str]:
         """What is held when time has passed, if anything is."""
-        for wait in (0, LIFETIME_MS, LIFETIME_MS):
+        for wait in (0, LIFETIME_MS):
             self.now += wait
             agent.run(self.now)
         stats, due = agent.stats(), agent.next_due()
@@ -163,7 +163,7 @@ class Trial:
 
 
 def is_ended(library: str, path: str) -> bool:
-    """Whether an agent holds nothing 64 s after the last round of a session file."""
+    """Whether an agent holds nothing 32 s after the last round of a session file."""
     agent = ua.Agent(library, LOCAL, bytes(32))
     moment: Optional[int] = None
     headers = ""
@@ -179,7 +179,7 @@ def is_ended(library: str, path: str) -> bool:
             elif moment is not None:
                 agent.event_lines(headers + line)
                 headers = ""
-    for wait in (0, LIFETIME_MS, LIFETIME_MS):
+    for wait in (0, LIFETIME_MS):
         agent.run((moment or 0) + wait)
         moment = (moment or 0) + wait
     stats = agent.stats()
