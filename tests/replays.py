@@ -3,7 +3,7 @@
 import os
 from pathlib import Path
 
-from process import ran, redirected
+from process import Running, ran, redirected
 from register import expect, test
 
 HEAD = "sip-events 1\nlocal 192.0.2.1:5060\n"
@@ -67,6 +67,19 @@ def an_input_that_cannot_be_read():
             ended = ran(*words, script=redirected(redirection))
             told = f"ua: input failed\nua: standard input: {error}\n"
             expect(f"{words} {redirection}", (4, "", told), ended)
+
+
+@test
+def a_streamed_replay_answers_a_round_before_more_comes():
+    """The outputs of a round, short or long, come with the line that begins the next one, though
+    the input stays open."""
+    with Running("replay", "--streamed") as run:
+        run.say(HEAD + "round 0")
+        for number, events in enumerate([0, 180, 200, 1_000, 10_000]):
+            run.say(EVENT * events + f"round {number + 1}")
+            run.output.next(f"round {number}\n")
+        run.process.stdin.close()
+        expect("the end", (0, ""), (run.ended().status, run.errors.whole()))
 
 
 def cut_into(shards, workers, cut="spread"):

@@ -1,5 +1,5 @@
 -- The first lines of what was read, and of all that is left.
-use Rattle.std.proofs.Common.{◌≡◌, ℕ, zero, suc, ◌+◌, ◌<◌, ◌≤◌, Bool, true, false, List, [], ◌∷◌, ◌++◌, length, take, refl, sym, ap, ◌∙◌, arith, codes, inl, inr}
+use Rattle.std.proofs.Common.{◌≡◌, ℕ, zero, suc, ◌+◌, ◌<◌, ◌≤◌, Bool, true, false, List, [], ◌∷◌, ◌++◌, length, take, drop, refl, sym, ap, ◌∙◌, arith, codes, inl, inr}
 use Rattle.std.specs.Prelude.{◌&&◌, ◌==◌, if◌then◌else◌, nat_eq}
 use Rattle.std.specs.List.{starts_with}
 use Rattle.sip_files.specs.Rounds.{begins_round, first_round}
@@ -109,9 +109,9 @@ same_first (b ∷ bytes) after ends =
 -- if it doesn't end before the end of the text, only the last bytes may be those of the next one
 pub front_of : (count : ℕ) (text after : List ℕ) → count + 6 ≤ length text
     → first_round text ≡ text
-    → (more : List ℕ) × (first_round (text ++ after) ≡ take count text ++ more)
+    → first_round (text ++ after) ≡ take count text ++ first_round (drop count text ++ after)
 unfolding first_round
-front_of zero text after fits all = (first_round (text ++ after), refl)
+front_of zero text after fits all = refl
 front_of (suc count) [] after fits all = absurd (omega (arith, fits))
 front_of (suc count) (b ∷ bytes) after fits all =
     by_end ((b == 10) && begins_round bytes) refl
@@ -119,20 +119,19 @@ front_of (suc count) (b ∷ bytes) after fits all =
   where
     by_end : (stops : Bool) → stops ≡ ((b == 10) && begins_round bytes)
         → (count + 6 ≤ length bytes → first_round bytes ≡ bytes
-        → (more : List ℕ) × (first_round (bytes ++ after) ≡ take count bytes ++ more))
+        → first_round (bytes ++ after)
+        ≡ take count bytes ++ first_round (drop count bytes ++ after))
         → b ∷ after_first stops bytes ≡ b ∷ bytes
-        → (more : List ℕ) × (first_round (b ∷ (bytes ++ after)) ≡ b ∷ (take count bytes ++ more))
+        → first_round (b ∷ (bytes ++ after))
+        ≡ b ∷ (take count bytes ++ first_round (drop count bytes ++ after))
     by_end true is further all =
         let none : [] ≡ bytes = cc in
         absurd (omega (arith, fits, ap length none))
     by_end false is further all =
         let room : count + 6 ≤ length bytes = omega (arith, fits) in
-        let on = further room cc in (
-          on.0,
-          ap (λ (stop : Bool). b ∷ after_first stop (bytes ++ after))
-              (same_begin b bytes after (omega (arith, room)) ∙ sym is)
-              ∙ ap (λ (rest : List ℕ). b ∷ rest) on.1,
-        )
+        ap (λ (stop : Bool). b ∷ after_first stop (bytes ++ after))
+        (same_begin b bytes after (omega (arith, room)) ∙ sym is)
+        ∙ ap (λ (rest : List ℕ). b ∷ rest) (further room cc)
 
 -- behind it stands nothing, or the next one
 pub rounds_follow : (lines left : List ℕ) → first_round (lines ++ left) ≡ lines → IsRounds left

@@ -1,8 +1,9 @@
 -- What was read and what is left to read, where that is known.
-use Rattle.std.proofs.Common.{◌≡◌, ℕ, ◌+◌, ◌<◌, ◌≤◌, ◌^◌, Bool, false, List, [], ◌∷◌, ◌++◌, length, take, drop, refl, sym, ap, subst, ◌∙◌, append_assoc, append-nil, take-append-drop, length-take-le, zero-add, arith, inl, inr}
+use Rattle.std.proofs.Common.{◌≡◌, ℕ, ◌+◌, ◌-◌, ◌<◌, ◌≤◌, ◌^◌, Bool, false, List, [], ◌∷◌, ◌++◌, length, take, drop, refl, sym, ap, subst, ◌∙◌, append_assoc, append-nil, take-append-drop, length-take-le, length-append, zero-add, arith, inl, inr}
 use Rattle.std.specs.Prelude.{IfSome, Option, None, Some, Result, ◌⊎◌}
 use Rattle.std.specs.Io.KnownBytes.{Consumes, IsAtEnd, Keeps, prepend_known}
-use Rattle.std.proofs.lemmas.List.{drop_all, take_all}
+use Rattle.std.proofs.lemmas.Bool.Decides.{leb_tells}
+use Rattle.std.proofs.lemmas.List.{drop-append-le, drop_all, take-append-le, take_all, take_rest}
 use Rattle.sip_files.specs.Counted.{Counts, failures_of}
 use Rattle.sip_files.proofs.Streams.{counts_both}
 use Rattle.sip_files.specs.Rounds.{first_round}
@@ -41,14 +42,64 @@ given (Some xs) (Some ys) text first rest len kept is others =
     ∙ ap (λ (t : List ℕ). t ++ (drop len text ++ ys)) (sym is)
     ∙ ap (λ (t : List ℕ). first ++ (t ++ ys)) (sym others)
 
--- ---- the lines that are given
+-- ---- how far it was searched
 
--- the first lines are in the text
-pub fits : (text slice first : List ℕ) → slice ≡ text → first ≡ first_round slice
-    → length first ≤ length text
-fits text slice first same is =
-    subst (λ (t : List ℕ). length t ≤ length text) (sym (is ∙ ap first_round same))
-    (no_longer text)
+-- no round begins in the first bytes
+abbrev pub IsSearched : ℕ → List ℕ → Type 0
+IsSearched count text = (count ≤ length text)
+    × (first_round text ≡ take count text ++ first_round (drop count text))
+
+-- the first round is the whole text
+is_whole : (text : List ℕ) → length text ≤ length (first_round text) → first_round text ≡ text
+is_whole text all = sym (is_front text) ∙ take_all (length (first_round text)) text all
+
+module _ (count : ℕ) (text whole first : List ℕ) (searched : IsSearched count text)
+    (same : whole ≡ text)
+    (is : first ≡ first_round (take (length whole - count) (drop count whole))) where
+  -- the length of the first round
+  pub found_length : count + length first ≡ length (first_round text)
+  found_length =
+      let behind : first ≡ first_round (drop count text) =
+      is ∙ ap (λ (t : List ℕ). first_round (take (length t - count) (drop count t))) same
+      ∙ ap first_round (take_rest text count) in
+      omega (
+        arith,
+        ap length behind,
+        ap length searched.1,
+        length-append (take count text) (first_round (drop count text)),
+        length-take-le count text searched.0,
+      )
+
+  pub found_fits : count + length first ≤ length text
+  found_fits = omega (arith, found_length, no_longer text)
+
+-- with more bytes, all but the last ones were searched
+pub searched_on : (text more longer : List ℕ) → length text ≤ length (first_round text)
+    → longer ≡ text ++ more → IsSearched (length text - 6) longer
+searched_on text more longer all is =
+    subst (IsSearched (length text - 6)) (sym is) (elim (leb_tells 6 (length text)) [
+      | inl w ↦ long w.1
+      | inr w ↦ short w.1
+    ])
+  where
+    long : 6 ≤ length text → IsSearched (length text - 6) (text ++ more)
+    long some =
+        let count = length text - 6 in
+        let within : count ≤ length text = omega arith in (
+          omega (arith, length-append text more),
+          front_of count text more (omega (arith, some)) (is_whole text all)
+              ∙ ap (λ (t : List ℕ). t ++ first_round (drop count text ++ more))
+              (sym (take-append-le count text more within))
+              ∙ ap (λ (t : List ℕ). take count (text ++ more) ++ first_round t)
+              (sym (drop-append-le count text more within)),
+        )
+
+    short : length text < 6 → IsSearched (length text - 6) (text ++ more)
+    short few =
+        let none : 0 ≡ length text - 6 = omega (arith, few) in
+        subst (λ (n : ℕ). IsSearched n (text ++ more)) none (omega arith, refl)
+
+-- ---- the lines that are given
 
 -- the first round ends in the text, or nothing follows the text
 abbrev pub MayBeGiven : ℕ → List ℕ → Bool → Type 0
@@ -122,16 +173,15 @@ module _ (text first rest : List ℕ) (len count : ℕ) (is_len : len ≡ length
       → IfSome (prepend_known rest left) (IsNext first)
   is_long long None = tt
   is_long long (Some left) =
-      let on = front_of count text left fits
-      (sym (is_front text) ∙ take_all (length (first_round text)) text
-      (omega (arith, all, is_len))) in
+      let more = first_round (drop count text ++ left) in
       record {
-        more = on.0;
+        more = more;
         front =
             ap first_round (sym (append_assoc first rest left)
             ∙ ap (λ (t : List ℕ). t ++ left) (ap (λ (t : List ℕ). t ++ rest) is_first
             ∙ ap (λ (t : List ℕ). take count text ++ t) is_rest ∙ take-append-drop count text))
-            ∙ on.1 ∙ ap (λ (t : List ℕ). t ++ on.0) (sym is_first);
+            ∙ front_of count text left fits (is_whole text (omega (arith, all, is_len)))
+            ∙ ap (λ (t : List ℕ). t ++ more) (sym is_first);
         whole = inr (omega (arith, long, counted));
       }
 

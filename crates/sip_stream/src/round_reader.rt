@@ -1,6 +1,6 @@
 //! Reads a file by the lines of its rounds.
 
-ghost use Rattle.std.specs.Prelude.{◌≡◌, ◌⊎◌, ◌≤◌, [], false, drop, length, take, IfErr, IfOk, IfSome, OnOk};
+ghost use Rattle.std.specs.Prelude.{◌≡◌, ◌⊎◌, ◌≤◌, ◌+◌, ◌++◌, ℕ, List, [], false, drop, length, take, IfErr, IfOk, IfSome, OnOk};
 ghost use Rattle.std.specs.Io.KnownBytes.{Consumes, IsAtEnd, Keeps, prepend_known};
 ghost use Rattle.sip_files.specs.Counted.{Counts};
 ghost use Rattle.sip_stream.specs.Streams.{IsNext, input_failures};
@@ -37,7 +37,9 @@ impl RoundReader {
     }
 
     /// The lines up to the next one that begins a round; none at the end. Of lines that are longer
-    /// than a file may be, it may give only a front that is, too.
+    /// than a file may be, it may give only a front that is, too. It reads no further than the read
+    /// that tells where they end, so that it doesn't wait for more, and holds at most 4,102 bytes
+    /// that come after them.
     ///
     /// # Errors
     ///
@@ -51,14 +53,18 @@ impl RoundReader {
             (IsNext lines.items)) }
         ensures end { IfOk result (λ lines. lines.items ≡ []
             → IsAtEnd (prepend_known self.new.text.items (R.remaining reader.new))) }
+        ensures held { OnOk result
+            (length self.new.text.items ≤ length self.old.text.items + 4102) }
         ensures fault { IfErr result (λ fault.
             (fault ≡ stream_fault.Input) ⊎ (fault ≡ stream_fault.NoMemory)) }
         ensures input { Counts (R.failures reader.old) (R.failures reader.new)
             (input_failures result) }
     {
         let mut has_more = true;
+        // No round begins before it.
+        let mut searched = 0;
         for _ in 0..=TOO_MANY + ROUND.len() {
-            let len = first_round_of(&self.text).len();
+            let len = searched + first_round_of(&self.text[searched..]).len();
             if len < self.text.len() || !has_more {
                 return Ok(self.take(len)?);
             }
@@ -66,6 +72,7 @@ impl RoundReader {
             if self.text.len() >= TOO_MANY + ROUND.len() {
                 return Ok(self.take(TOO_MANY)?);
             }
+            searched = self.text.len().saturating_sub(ROUND.len());
             has_more = self.read_more(reader)?;
         }
         // Each turn read a byte at least, so there was one with too many.
@@ -83,11 +90,13 @@ impl RoundReader {
         Ok(mem::replace(&mut self.text, rest))
     }
 
-    // Reads as much again as there is, and at least once. Gives whether there may be more.
+    // Reads once. Gives whether there may be more.
     fn read_more<R: CountedRead>(&mut self, reader: &mut R) -> Result<bool, StreamFault>
         ensures same { OnOk result (Keeps
             (prepend_known self.old.text.items (R.remaining reader.old))
             (prepend_known self.new.text.items (R.remaining reader.new))) }
+        ensures read { OnOk result ((more : List ℕ) × (length more ≤ 4096)
+            × (self.new.text.items ≡ self.old.text.items ++ more)) }
         ensures end { IfOk result
             (λ has_more. has_more ≡ false → IsAtEnd (R.remaining reader.new)) }
         ensures fault { IfErr result (λ fault.
@@ -96,13 +105,12 @@ impl RoundReader {
             (input_failures result) }
     {
         let mut chunk = [0u8; CHUNK];
-        for _ in 0..=self.text.len() / CHUNK {
-            match reader.read_once(&mut chunk) {
-                Ok(0) => return Ok(false),
-                Ok(count) => self.text.extend_from_slice(&chunk[..count])?,
-                Err(_) => return Err(StreamFault::Input),
+        match reader.read_once(&mut chunk) {
+            Ok(count) => {
+                self.text.extend_from_slice(&chunk[..count])?;
+                Ok(0 < count)
             }
+            Err(_) => Err(StreamFault::Input),
         }
-        Ok(true)
     }
 }
