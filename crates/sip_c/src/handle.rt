@@ -10,7 +10,6 @@ use std::mem;
 
 /// A handle: whether it holds an agent, and where. If all its bytes are 0, it holds none.
 #[repr(C)]
-#[derive(Drop)]
 pub struct Handle {
     held: bool,
     owned: Owned,
@@ -25,13 +24,15 @@ impl Handle {
         self.held
     }
 
-    /// Puts an agent in.
+    /// Puts an agent in, where there is none.
     pub(crate) fn put(&mut self, host: Box<Host>)
+        requires { self.old.owned.host ≡ None }
         ensures { self.new.owned.host ≡ Some host.value }
     {
         let owned = Owned::of(host);
         let held = true;
-        drop(mem::replace(self, Handle { held, owned }));
+        let Handle { held: _, owned } = mem::replace(self, Handle { held, owned });
+        owned.end();
     }
 
     /// Takes its agent out, if it holds one.
@@ -42,6 +43,10 @@ impl Handle {
         let owned = Owned::empty(alloc);
         let held = false;
         let Handle { held, owned } = mem::replace(self, Handle { held, owned });
-        if held { Some(owned.into_box()) } else { None }
+        if held {
+            return Some(owned.into_box());
+        }
+        owned.end();
+        None
     }
 }

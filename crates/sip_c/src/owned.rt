@@ -9,10 +9,9 @@ use std::alloc::Global;
 use std::marker::Model;
 use std::ptr;
 
-/// The owner of a boxed host, or of none, in a form that C can hold. Dropping it frees nothing;
-/// `into_box` gives the box back.
+/// The owner of a boxed host, or of none, in a form that C can hold. It can't be dropped, so that no
+/// host is lost: `into_box` gives the box back, and `end` ends an owner that has none.
 #[repr(C)]
-#[derive(Drop)]
 pub struct Owned {
     at: *mut u8,
     alloc: Global,
@@ -50,5 +49,12 @@ impl Owned {
     {
         let Owned { at, alloc } = self;
         unsafe { Box::from_raw(alloc, at as *mut Host) }
+    }
+
+    /// Ends an owner that has no host.
+    pub fn end(self)
+        requires { self.host ≡ None }
+    {
+        let Owned { at: _, alloc: _ } = self;
     }
 }
