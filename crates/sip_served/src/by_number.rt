@@ -25,7 +25,6 @@ use std::alloc::{AllocError, Global};
 use std::collections::BTreeMap;
 
 /// Held requests by number, in the order in which they came up.
-#[derive(Drop)]
 pub(crate) struct ByNumber {
     pub(crate) requests: BTreeMap<u64, HeldRequest>,
     pub(crate) indices: Indices,
@@ -174,4 +173,14 @@ fn move_due(
         (Some(former), Some(due)) => dues.rearm(number, former, due)?,
     }
     Ok(())
+}
+
+impl Drop for ByNumber {
+    fn drop(self) {
+        let ByNumber {
+            requests: _,
+            indices: _,
+            dues: _,
+        } = self;
+    }
 }
