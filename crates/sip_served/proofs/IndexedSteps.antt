@@ -18,12 +18,10 @@ use Rattle.sip_held_dialogs.specs.Requests.{is_invite}
 use Rattle.sip_held_dialogs.specs.declared.held_dialog.DialogReference.{DialogReference}
 use Rattle.sip_reliable.specs.declared.tick.Tick.{Tick}
 use Rattle.sip_reliable.specs.declared.tick.Tick.TheVariants as tick
-use Rattle.sip_served.specs.contracts.request_keys.PrackKeyOrd.TheImpl as prack_order
 use Rattle.sip_served.specs.declared.change.Change.{Change}
 use Rattle.sip_served.specs.declared.change.Change.TheVariants.{Ack, Answer, FinalResponse, Prack}
 use Rattle.sip_served.specs.declared.held_request.HeldRequest.{HeldRequest}
 use Rattle.sip_served.specs.declared.held_request.SuccessEnd.TheVariants.{Acknowledged}
-use Rattle.sip_served.specs.declared.request_keys.PrackKey.{PrackKey}
 use Rattle.sip_served.specs.declared.retransmissions.SuccessDue.{SuccessDue}
 use Rattle.sip_served.specs.declared.retransmissions.SuccessDue.TheVariants as repeat
 use Rattle.sip_served.specs.Steps.Change.{after_change}
@@ -34,7 +32,7 @@ use Rattle.sip_reliable.specs.Ledger.{tick_answer}
 use Rattle.sip_served.specs.declared.held_request.Success.{Success}
 use Rattle.sip_served.specs.Steps.Indexed.{at, due_at, kept_ticked, number_ticked, thing_ticked}
 use Rattle.sip_served.specs.Steps.Indices.{IsIndices, keys_at}
-use Rattle.sip_served.specs.Steps.Keys.{ack_key, ack_of, branch_key, branch_of, id_of, merge_key, merge_of, prack_key, prack_of}
+use Rattle.sip_served.specs.Steps.Keys.{PrackKey, ack_key, ack_of, branch_key, branch_of, id_of, merge_key, merge_of, prack_cmp, prack_key, prack_of}
 use Rattle.sip_served.specs.RequestLife.{RequestHappening, EndsSuccess, Finishes, GivesUpProvisionals, MakesDialog, RepeatsProvisionals, RepeatsSuccess, SendsReliably, TakesPrack, request_happened, went_on}
 use Rattle.sip_served.specs.Tick.{is_kept_at, next_due_of, provisionals_go, request_due, request_ticked, success_answer, success_at_tick, success_goes, success_passes, success_ticked}
 use Rattle.sip_served.proofs.Dues.{requests_due}
@@ -75,13 +73,13 @@ module _ (old new : BTreeMap ℕ HeldRequest) (number : ℕ) (x : Option HeldReq
   -- the key of the number's PRACK moved
   pub pracks_moved : (pracks : List (PrackKey × ℕ)) (key : Option PrackKey)
       → key ≡ option_and_then prack_of x
-      → IsIndexOf prack_order.ghosts.cmp (with_key (keys_at prack_of (at old)) number key) pracks
-      → IsIndexOf prack_order.ghosts.cmp (keys_at prack_of (at new)) pracks
+      → IsIndexOf prack_cmp (with_key (keys_at prack_of (at old)) number key) pracks
+      → IsIndexOf prack_cmp (keys_at prack_of (at new)) pracks
   pracks_moved pracks key is tied =
-      index_same prack_order.ghosts.cmp pracks
+      index_same prack_cmp pracks
       (λ n. option_and_then prack_of (with_key (at old) number x n)) (keys_at prack_of (at new))
       (λ n. ap (option_and_then prack_of) (with_new n))
-      (thing_moved prack_order.ghosts.cmp prack_of (at old) number pracks x key is tied)
+      (thing_moved prack_cmp prack_of (at old) number pracks x key is tied)
 
   pub dues_moved : (dues : List (ℕ × ℕ)) (moment : Option ℕ)
       → moment ≡ option_and_then request_due x
@@ -176,7 +174,7 @@ module _ (old new : BTreeMap ℕ HeldRequest) (number : ℕ) (x w : HeldRequest)
 
   -- with an index by PRACKs that may be another
   pub indices_stay : (indices : Indices) (pracks : List (PrackKey × ℕ)) → IsIndices (at old) indices
-      → IsIndexOf prack_order.ghosts.cmp (keys_at prack_of (at new)) pracks
+      → IsIndexOf prack_cmp (keys_at prack_of (at new)) pracks
       → IsIndices (at new) (record indices { pracks = pracks })
   indices_stay indices pracks tied moved = record {
     ids = index_same _ indices.ids (keys_at id_of (at old)) (keys_at id_of (at new))

@@ -23,19 +23,12 @@ use Rattle.sip_held_dialogs.specs.Dialogs.{is_dialog_id}
 use Rattle.sip_held_dialogs.specs.Ids.{is_id}
 use Rattle.sip_held_dialogs.specs.Requests.{is_invite}
 use Rattle.sip_reliable.specs.Ledger.{waits_for}
-use Rattle.sip_served.specs.contracts.request_keys.AckKeyOrd.TheImpl as ack_order
-use Rattle.sip_served.specs.contracts.request_keys.BranchKeyOrd.TheImpl as branch_order
-use Rattle.sip_served.specs.contracts.request_keys.MergeKeyOrd.TheImpl as merge_order
-use Rattle.sip_served.specs.contracts.request_keys.PrackKeyOrd.TheImpl as prack_order
 use Rattle.sip_served.specs.declared.held_request.HeldRequest.{HeldRequest}
-use Rattle.sip_served.specs.declared.request_keys.AckKey.{AckKey}
-use Rattle.sip_served.specs.declared.request_keys.BranchKey.{BranchKey}
-use Rattle.sip_served.specs.declared.request_keys.PrackKey.{PrackKey}
 use Rattle.sip_served.specs.Acknowledgment.{awaits_ack, is_ack_of}
 use Rattle.sip_served.specs.Arrival.{is_in_dialog, is_merged, is_named_by}
 use Rattle.sip_served.specs.Cancel.{is_same_branch}
 use Rattle.sip_served.specs.Steps.Index.{is_key_of}
-use Rattle.sip_served.specs.Steps.Keys.{ack_key, ack_of, branch_key, id_of, merge_key, merge_of, prack_key, prack_of}
+use Rattle.sip_served.specs.Steps.Keys.{PrackKey, TextKey, ack_key, ack_of, branch_key, id_of, merge_key, merge_of, prack_cmp, prack_key, prack_of, text_cmp}
 use Rattle.sip_served.specs.State.{has_id}
 use Rattle.sip_served.proofs.Indexes.{by_bool}
 use Rattle.sip_served.proofs.Numbered.{at_itself, tied_numbers}
@@ -45,15 +38,10 @@ both_equal Less p = refl
 both_equal Equal p = refl
 both_equal Greater p = refl
 
-all_equal : (o p q : Ordering) → is_eq (ordering_then o (ordering_then p q))
+all_equal : (o p q : Ordering) → is_eq (ordering_then (ordering_then o p) q)
     ≡ (is_eq o && is_eq p && is_eq q)
 all_equal o p q =
-    both_equal o (ordering_then p q) ∙ ap (λ b. is_eq o && b) (both_equal p q)
-    ∙ grouped (is_eq o) (is_eq p) (is_eq q)
-  where
-    grouped : (a b c : Bool) → (a && (b && c)) ≡ (a && b && c)
-    grouped true b c = refl
-    grouped false b c = refl
+    both_equal (ordering_then o p) q ∙ ap (λ b. b && is_eq q) (both_equal o p)
 
 pub number_equal : (a b : ℕ) → is_eq (nat_cmp a b) ≡ (a == b)
 number_equal a b =
@@ -89,23 +77,32 @@ id_same id held = sym (ids_equal id held.id)
 
 -- ---- a request that came by another path
 
+last_first : (a b c : Bool) → (a && b && c) ≡ (a && c && b)
+last_first true true true = refl
+last_first true true false = refl
+last_first true false true = refl
+last_first true false false = refl
+last_first false b c = refl
+
 pub merge_same : (request : Message) (held : HeldRequest)
-    → is_merged request held ≡ is_key_of merge_order.ghosts.cmp (merge_key request) (merge_of held)
+    → is_merged request held ≡ is_key_of text_cmp (merge_key request) (merge_of held)
 merge_same request held =
     let tag = str_to_ascii_lowercase (tag_of request.from) in
     let other = str_to_ascii_lowercase (tag_of held.request.from) in
     sym (all_equal (slice_cmp nat_cmp tag other)
-    (nat_cmp request.cseq.number held.request.cseq.number)
     (slice_cmp nat_cmp request.cseq.method held.request.cseq.method)
+    (nat_cmp request.cseq.number held.request.cseq.number)
     ∙ (λ i. text_back tag other i
-    && number_back request.cseq.number held.request.cseq.number i
-    && text_back request.cseq.method held.request.cseq.method i))
+    && text_back request.cseq.method held.request.cseq.method i
+    && number_back request.cseq.number held.request.cseq.number i)
+    ∙ last_first (bytes_eq other tag) (bytes_eq held.request.cseq.method request.cseq.method)
+    (held.request.cseq.number == request.cseq.number))
 
 -- ---- an ACK
 
 key_from : (ack : Message) (held : HeldRequest) (b rest : Bool)
     → ((b && rest) && is_ack_of ack held) ≡ true
-    → is_key_of ack_order.ghosts.cmp (ack_key (tag_of ack.to) (tag_of ack.from) ack.cseq.number)
+    → is_key_of text_cmp (ack_key (tag_of ack.to) (tag_of ack.from) ack.cseq.number)
     (if b then Some (ack_key held.tag (tag_of held.request.from) held.request.cseq.number) else None)
     ≡ true
 key_from ack held false rest passes = absurd (false≢true passes)
@@ -122,12 +119,12 @@ key_from ack held true true passes =
     ∙ passes
 
 -- an INVITE that awaits the ACK has its key
-pub ack_has_key : (ack : Message) (key : AckKey)
+pub ack_has_key : (ack : Message) (key : TextKey)
     → key ≡ ack_key (tag_of ack.to) (tag_of ack.from) ack.cseq.number → (held : HeldRequest)
     → (awaits_ack held && is_ack_of ack held) ≡ true
-    → is_key_of ack_order.ghosts.cmp key (ack_of held) ≡ true
+    → is_key_of text_cmp key (ack_of held) ≡ true
 ack_has_key ack key is held passes =
-    ap (λ (k : AckKey). is_key_of ack_order.ghosts.cmp k (ack_of held)) is
+    ap (λ (k : TextKey). is_key_of text_cmp k (ack_of held)) is
     ∙ key_from ack held (is_invite held.request) _ passes
 
 -- ---- a PRACK
@@ -136,7 +133,7 @@ key_of_dialog : (name : DialogId) (created_by : Id) (rack : RAck) (number : ℕ)
     (waits : Bool) (dialog : Option DialogReference)
     → (option_map_or (λ life. is_dialog_id life.name name && is_id life.created_by created_by) dialog
     false && (invite && method && (number == rack.cseq) && waits)) ≡ true
-    → is_key_of prack_order.ghosts.cmp (prack_key created_by rack.cseq)
+    → is_key_of prack_cmp (prack_key created_by rack.cseq)
     (option_map (λ dialog. prack_key dialog.created_by number) dialog) ≡ true
 key_of_dialog name created_by rack number invite method waits None passes =
     absurd (false≢true passes)
@@ -159,32 +156,32 @@ key_of_dialog name created_by rack number invite method waits (Some life) passes
 pub prack_has_key : (name : DialogId) (created_by : Id) (rack : RAck) (key : PrackKey)
     → key ≡ prack_key created_by rack.cseq → (held : HeldRequest)
     → (is_in_dialog name created_by held && is_named_by rack held) ≡ true
-    → is_key_of prack_order.ghosts.cmp key (prack_of held) ≡ true
+    → is_key_of prack_cmp key (prack_of held) ≡ true
 prack_has_key name created_by rack key is held passes =
-    ap (λ (k : PrackKey). is_key_of prack_order.ghosts.cmp k (prack_of held)) is
+    ap (λ (k : PrackKey). is_key_of prack_cmp k (prack_of held)) is
     ∙ key_of_dialog name created_by rack held.request.cseq.number (is_invite held.request)
     (bytes_eq rack.method held.request.cseq.method) (waits_for rack.rseq held.ledger) held.dialog
     passes
 
 -- ---- a CANCEL
 
-by_branch : (cancel key : Key) (branch : BranchKey) → branch_key cancel ≡ Some branch
-    → is_same_branch cancel key ≡ is_key_of branch_order.ghosts.cmp branch (branch_key key)
+by_branch : (cancel key : Key) (branch : TextKey) → branch_key cancel ≡ Some branch
+    → is_same_branch cancel key ≡ is_key_of text_cmp branch (branch_key key)
 by_branch (Client name method) key branch is = absurd cc
 by_branch (Server name sent_by method) (Client other_name other_method) branch is = refl
 by_branch (Server name sent_by method) (Server other other_sent_by other_method) branch is =
-    let same : record { branch = name; host = sent_by.host; port = sent_by.port } ≡ branch = cc in
+    let same : ◌≡◌ {A = TextKey} (name, sent_by.host, sent_by.port) branch = cc in
     sym (all_equal (slice_cmp nat_cmp name other)
     (slice_cmp nat_cmp sent_by.host other_sent_by.host) (nat_cmp sent_by.port other_sent_by.port)
     ∙ (λ i. is_eq-slice_cmp name other i && is_eq-slice_cmp sent_by.host other_sent_by.host i
     && number_equal sent_by.port other_sent_by.port i))
-    ∙ ap (λ (b : BranchKey). is_key_of branch_order.ghosts.cmp b
-    (Some record { branch = other; host = other_sent_by.host; port = other_sent_by.port })) same
+    ∙ ap (λ (b : TextKey). is_key_of text_cmp b
+    (Some (other, other_sent_by.host, other_sent_by.port))) same
 
-pub branch_same : (cancel : Key) (branch : BranchKey) → branch_key cancel ≡ Some branch
+pub branch_same : (cancel : Key) (branch : TextKey) → branch_key cancel ≡ Some branch
     → (held : HeldRequest)
     → is_same_branch cancel held.key
-    ≡ is_key_of branch_order.ghosts.cmp branch (branch_key held.key)
+    ≡ is_key_of text_cmp branch (branch_key held.key)
 branch_same cancel branch is held = by_branch cancel held.key branch is
 
 never_branch : (cancel key : Key) → branch_key cancel ≡ None → is_same_branch cancel key ≡ false

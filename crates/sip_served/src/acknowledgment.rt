@@ -16,10 +16,8 @@ use sip_text::token_eq;
 pub(crate) fn acknowledged_invite(ack: &Message, requests: &[HeldRequest]) -> Option<Id>
     ensures { result ≡ spec.acknowledged_invite ack.now requests.now }
 {
-    requests
-        .iter()
-        .find(|held| takes_ack(held, ack))
-        .map(|held| held.id)
+    let held = requests.iter().find(|held| takes_ack(held, ack))?;
+    Some(held.id)
 }
 
 /// Whether the ACK is for the 2xx to this INVITE, which still waits for it.

@@ -98,10 +98,10 @@ pub(crate) fn named_invite(
 ) -> Option<Id>
     ensures { result ≡ arrival.named_invite requests.now name.now created_by rack.now }
 {
-    requests
+    let held = requests
         .iter()
-        .find(|held| takes_prack(held, name, created_by, rack))
-        .map(|held| held.id)
+        .find(|held| takes_prack(held, name, created_by, rack))?;
+    Some(held.id)
 }
 
 /// Whether this is an INVITE of the dialog with a waiting response that the RAck names.
@@ -149,9 +149,5 @@ fn is_merged(held: &HeldRequest, request: &Message) -> bool
 pub(crate) fn requires_unknown(request: &Message) -> bool
     ensures { result ≡ list_any is_unknown_option request.now.require }
 {
-    request
-        .require
-        .as_slice()
-        .iter()
-        .any(|option| is_unknown_option(option))
+    request.require.as_slice().iter().any(is_unknown_option)
 }

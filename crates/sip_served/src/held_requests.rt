@@ -143,12 +143,13 @@ impl HeldRequests {
         ensures { OnOk result (self.new ≡ self.old ++ held ∷ []) }
     {
         match &mut self.held {
-            Held::Few(requests) if requests.len() < FEW => push_few(requests, held),
             Held::Few(requests) => {
-                let requests = mem::replace(requests, Vec::new(self.alloc));
-                let mut indexed = IndexedRequests::of(self.alloc, requests)?;
-                indexed.push(held)?;
-                self.held = Held::Many(Boxed::new(self.alloc, indexed)?);
+                push_few(requests, held)?;
+                if requests.len() > FEW {
+                    let requests = mem::replace(requests, Vec::new(self.alloc));
+                    let indexed = IndexedRequests::of(self.alloc, requests)?;
+                    self.held = Held::Many(Boxed::new(self.alloc, indexed)?);
+                }
                 Ok(())
             }
             Held::Many(indexed) => indexed.get_mut().push(held),

@@ -7,9 +7,7 @@ ghost use Rattle.sip_served.specs.declared.held_request.HeldRequest.{HeldRequest
 
 use crate::held_request::HeldRequest;
 use crate::index::Index;
-use crate::request_keys::{
-    AckKey, BranchKey, MergeKey, PrackKey, ack_of, branch_key, merge_key, prack_of,
-};
+use crate::request_keys::{PrackKey, TextKey, ack_of, branch_key, merge_key, prack_of};
 use sip_message::Id;
 use std::alloc::{AllocError, Global};
 
@@ -17,10 +15,10 @@ use std::alloc::{AllocError, Global};
 #[derive(Drop)]
 pub(crate) struct Indices {
     pub(crate) ids: Index<Id>,
-    pub(crate) merges: Index<MergeKey>,
-    pub(crate) acks: Index<AckKey>,
+    pub(crate) merges: Index<TextKey>,
+    pub(crate) acks: Index<TextKey>,
     pub(crate) pracks: Index<PrackKey>,
-    pub(crate) branches: Index<BranchKey>,
+    pub(crate) branches: Index<TextKey>,
 }
 
 impl Indices {

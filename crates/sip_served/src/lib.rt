@@ -3,6 +3,7 @@
 
 mod acknowledgment;
 mod arrival;
+mod by_number;
 mod change;
 mod held_request;
 mod held_requests;

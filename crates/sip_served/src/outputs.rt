@@ -49,23 +49,6 @@ fn response_with(
     response_to(alloc, arrival.request.get(), status, reason, tag)
 }
 
-/// The agent's own answer to a request.
-pub(crate) fn reply(
-    alloc: Global,
-    arrival: &Arrival,
-    status: u16,
-    reason: &[u8],
-) -> Result<CallOut, AllocError>
-    requires low { 100 ≤ status }
-    requires high { status ≤ 699 }
-    requires reason { IsTrue (is_reason reason.now) }
-    ensures { IfOk result (λ out. out ≡ arrived.command_for arrival.now
-        (response_of arrival.now.request status reason.now arrival.now.tag)) }
-{
-    let response = response_with(alloc, arrival, status, reason, &arrival.tag)?;
-    command_for(alloc, arrival.id, &arrival.key, response)
-}
-
 /// The agent's own answer to a request, as the only output.
 pub(crate) fn answered_with(
     alloc: Global,
@@ -79,7 +62,11 @@ pub(crate) fn answered_with(
     ensures { IfOk result (λ outs. outs.items
         ≡ arrived.answered_with arrival.now status reason.now) }
 {
-    one(alloc, reply(alloc, arrival, status, reason)?)
+    let response = response_with(alloc, arrival, status, reason, &arrival.tag)?;
+    one(
+        alloc,
+        command_for(alloc, arrival.id, &arrival.key, response)?,
+    )
 }
 
 /// The 482 to a merged request, which came by another path too (RFC 3261, section 8.2.2.2).
@@ -90,28 +77,12 @@ pub(crate) fn merged_request(alloc: Global, arrival: &Arrival) -> Result<Vec<Cal
     answered_with(alloc, arrival, 482, b"Loop Detected")
 }
 
-/// The 500 to a request whose number is out of order (RFC 3261, section 12.2.2).
-pub(crate) fn out_of_order(alloc: Global, arrival: &Arrival) -> Result<Vec<CallOut>, AllocError>
-    ensures { IfOk result (λ outs. outs.items
-        ≡ arrived.answered_with arrival.now 500 (codes "Server Internal Error")) }
-{
-    answered_with(alloc, arrival, 500, b"Server Internal Error")
-}
-
 /// The 481 to a request for a dialog that isn't held, to a PRACK if no response waits for it, or to
 /// a CANCEL of no held request.
 pub(crate) fn no_such_dialog(alloc: Global, arrival: &Arrival) -> Result<Vec<CallOut>, AllocError>
     ensures { IfOk result (λ outs. outs.items ≡ arrived.no_such_dialog arrival.now) }
 {
     answered_with(alloc, arrival, 481, b"Call/Transaction Does Not Exist")
-}
-
-/// The 200 to a PRACK.
-pub(crate) fn ok(alloc: Global, arrival: &Arrival) -> Result<CallOut, AllocError>
-    ensures { IfOk result (λ out. out ≡ arrived.command_for arrival.now
-        (response_of arrival.now.request 200 (codes "OK") arrival.now.tag)) }
-{
-    ok_with_tag(alloc, arrival, &arrival.tag)
 }
 
 /// The 200 to a request, with this tag in To if the request has none.

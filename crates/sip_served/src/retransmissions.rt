@@ -195,7 +195,7 @@ fn retransmit_provisionals(
 fn is_among(numbers: &[u32], wanted: u32) -> bool
     ensures { result ≡ is_among numbers.now wanted }
 {
-    numbers.iter().any(|number| wanted == *number)
+    numbers.contains(&wanted)
 }
 
 fn no_prack(held: &HeldRequest) -> Result<Notice, AllocError>
@@ -219,7 +219,10 @@ pub(crate) fn remove_over(requests: &mut Vec<HeldRequest>, now: u64)
 pub(crate) fn is_kept(held: &HeldRequest, now: u64) -> bool
     ensures { result ≡ spec.is_kept_at now held.now }
 {
-    held.removal.is_none_or(|moment| now < moment)
+    match held.removal {
+        Some(moment) => now < moment,
+        None => true,
+    }
 }
 
 /// The first moment, in ms, at which something of a request is due, if there is one.

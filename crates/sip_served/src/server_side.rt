@@ -24,7 +24,7 @@ use crate::incoming_cancel::{
     REQUEST_TERMINATED, cancel_accepted, is_unanswered_invite, request_terminated, termination_told,
 };
 use crate::outputs::{
-    bad_extension, merged_request, no_such_dialog, notice_of_request, ok, out_of_order,
+    answered_with, bad_extension, merged_request, no_such_dialog, notice_of_request, ok_with_tag,
 };
 use crate::respond::{answer_dialogs, answer_to, refusal_for};
 use seeded_hash::HashSeed;
@@ -306,7 +306,9 @@ impl ServerSide {
             ArrivalCase::Merged => merged_request(self.alloc, &arrival),
             ArrivalCase::BadExtension => bad_extension(self.alloc, &arrival),
             ArrivalCase::NoDialog => no_such_dialog(self.alloc, &arrival),
-            ArrivalCase::OutOfOrder => out_of_order(self.alloc, &arrival),
+            ArrivalCase::OutOfOrder => {
+                answered_with(self.alloc, &arrival, 500, b"Server Internal Error")
+            },
             ArrivalCase::Acknowledges(invite, rseq) => {
                 self.note(&name, arrival.request.get())?;
                 self.prack(call_id, &arrival, invite, rseq)
@@ -343,7 +345,7 @@ impl ServerSide {
         ensures { IfOk result (λ outs. (self.new, outs.items)
             ≡ arrived.prack_taken self.old call_id arrival.now invite rseq) }
     {
-        let mut outs = one(self.alloc, ok(self.alloc, arrival)?)?;
+        let mut outs = one(self.alloc, ok_with_tag(self.alloc, arrival, &arrival.tag)?)?;
         outs.push(CallOut::Notice(Notice::Prack {
             call_id,
             id: invite,

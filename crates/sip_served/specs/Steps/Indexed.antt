@@ -6,6 +6,7 @@ use Rattle.std.specs.Option.{option_and_then, option_map_or}
 use Rattle.std.specs.Ordering.{nat_cmp}
 use Rattle.sip_timers.specs.Index as timers
 use Rattle.sip_user.specs.declared.item.CallOut.{CallOut}
+use Rattle.sip_served.specs.declared.by_number.ByNumber.{ByNumber}
 use Rattle.sip_served.specs.declared.held_request.HeldRequest.{HeldRequest}
 use Rattle.sip_served.specs.declared.indexed_requests.IndexedRequests.TheInside.{Inside}
 use Rattle.sip_served.specs.Steps.Indices.{IsIndices}
@@ -19,12 +20,19 @@ at requests number = get nat_cmp requests number
 abbrev pub due_at : BTreeMap ℕ HeldRequest → ℕ → Option ℕ
 due_at requests number = option_and_then request_due (at requests number)
 
--- no number of a request is as high as the next, and the indices are those of the requests
+-- the indices are those of the requests
+pub record IsByNumber (all : ByNumber) : Type 0 where
+  pub in_order : IsOrdered nat_cmp all.requests
+  pub indices : IsIndices (at all.requests) all.indices
+  pub dues : timers.IsIndexOf nat_cmp (due_at all.requests) all.dues
+
+-- no number of a request is as high as the next
+abbrev pub IsBelow : ℕ → ByNumber → Type 0
+IsBelow next all = (number : ℕ) → next ≤ number → at all.requests number ≡ None
+
 pub record IsIndexed (inside : Inside) : Type 0 where
-  pub in_order : IsOrdered nat_cmp inside.requests
-  pub below : (number : ℕ) → inside.next ≤ number → at inside.requests number ≡ None
-  pub indices : IsIndices (at inside.requests) inside.indices
-  pub dues : timers.IsIndexOf nat_cmp (due_at inside.requests) inside.dues
+  pub below : IsBelow inside.next inside.all
+  pub numbered : IsByNumber inside.all
 
 -- things by number after a tick of the one of this number, if there is one: it stays, or it is removed
 abbrev pub thing_ticked : {X : Type 0} → (X → X) → (X → Bool) → ℕ → List (ℕ × X) → Option X

@@ -16,21 +16,21 @@ returns-in_err-number c =
     let inside = c.self.inside in
     let id = c.args.id in
     ap option_copied c.from_residual.ensures
-    ∙ sym (none_of_key id_order.ghosts.cmp id id_of (has_id id) (id_same id) inside.requests.entries
-    c.self.invariant.in_order
-    (λ m. c.in_err-number.ensures.none (keys_at id_of (at inside.requests))
-    c.self.invariant.indices.ids m (omega arith)))
+    ∙ sym (none_of_key id_order.ghosts.cmp id id_of (has_id id) (id_same id) inside.all.requests.entries
+    c.self.invariant.numbered.in_order
+    (λ m. c.in_err-number.ensures.none (keys_at id_of (at inside.all.requests))
+    c.self.invariant.numbered.indices.ids m (omega arith)))
     ∙ ap (find (has_id id)) c.self.view_is
 
 pub returns : goal.returns
 returns c =
     let inside = c.self.inside in
     let id = c.args.id in
-    let keys = keys_at id_of (at inside.requests) in
+    let keys = keys_at id_of (at inside.all.requests) in
     c.get.ensures.value
-    ∙ first_of_key id_order.ghosts.cmp id id_of (has_id id) (id_same id) inside.requests.entries
-    c.self.invariant.in_order c.in_ok-number.number
-    (c.in_ok-number.ensures.number keys c.self.invariant.indices.ids).0
-    (λ m has. c.in_ok-number.ensures.none_before keys c.self.invariant.indices.ids m has
+    ∙ first_of_key id_order.ghosts.cmp id id_of (has_id id) (id_same id) inside.all.requests.entries
+    c.self.invariant.numbered.in_order c.in_ok-number.number
+    (c.in_ok-number.ensures.number keys c.self.invariant.numbered.indices.ids).0
+    (λ m has. c.in_ok-number.ensures.none_before keys c.self.invariant.numbered.indices.ids m has
     (omega arith))
     ∙ ap (find (has_id id)) c.self.view_is

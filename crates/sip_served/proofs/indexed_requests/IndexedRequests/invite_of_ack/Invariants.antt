@@ -9,7 +9,7 @@ abbrev pub invariant-loop-least : goal.invariant-loop-least
 invariant-loop-least l =
     (l.least.0 ≡ l.initial.least.0)
     × NoneBelow (λ (held : HeldRequest). awaits_ack held && is_ack_of l.ack held)
-    l.self-inside.requests.entries l.least.1
+    l.self-inside.all.requests.entries l.least.1
 
 abbrev pub decreases-loop-least : goal.decreases-loop-least
 decreases-loop-least l = l.self-inside.next - l.least.1

@@ -7,9 +7,9 @@ use Rattle.sip_served.proofs.indexed_requests.IndexedRequests.next_due.Goals as 
 
 pub returns : goal.returns
 returns c =
-    let requests = c.self.inside.requests in
-    let dues = c.self.invariant.dues in
-    first_due requests c.self.invariant.in_order c.next_due.result
+    let requests = c.self.inside.all.requests in
+    let dues = c.self.invariant.numbered.dues in
+    first_due requests c.self.invariant.numbered.in_order c.next_due.result
     (c.next_due.ensures.none_before (due_at requests) dues)
     (c.next_due.ensures.of_a_key (due_at requests) dues)
     (c.next_due.ensures.none_due (due_at requests) dues)
