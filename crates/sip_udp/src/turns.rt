@@ -111,23 +111,23 @@ impl<F: RecordFile> Turns<F> {
     ) -> Result<Turns<F>, UaFault> {
         let moments = Moments::new(rt)?;
         let config = endpoint.config;
-        let mut waiting = Vec::new(alloc);
-        user.begin(alloc, &mut waiting)?;
-        let mut record = endpoint.take_record();
-        record.begin(alloc, &config, errors)?;
         let agent = Agent::new(alloc, config, endpoint.division.shards, Spread)?;
-        Ok(Turns {
+        let mut turns = Turns {
             alloc,
             agent,
             user,
-            record,
+            record: endpoint.take_record(),
             limit: TimeLimit::new(endpoint.seconds, endpoint.input.take()),
             tally: Tally::new(alloc, &endpoint),
             endpoint,
             moments,
             number: config.first,
-            waiting,
-        })
+            waiting: Vec::new(alloc),
+        };
+        let begun = &mut turns;
+        begun.user.begin(alloc, &mut begun.waiting)?;
+        begun.record.begin(alloc, &config, errors)?;
+        Ok(turns)
     }
 
     /// Runs the rounds of the journal again, if there is one, without sending what they give. The
