@@ -6,6 +6,7 @@ use sip_user::{Invite, ProvisionalSupport};
 use std::alloc::{AllocError, Global};
 
 /// Which call is made, and how.
+#[derive(Drop)]
 pub struct CallPlan {
     /// Where the INVITE is sent.
     pub to: Addr,
@@ -27,20 +28,6 @@ pub struct CallPlan {
 }
 
 impl CallPlan {
-    /// A call to this URI at this address, without a body. It ends as soon as it is answered.
-    pub(crate) fn usual(alloc: Global, to: Addr, uri: Uri, call_id: CallId) -> CallPlan {
-        CallPlan {
-            to,
-            uri,
-            call_id,
-            body: Text::from_vec(Vec::new(alloc)),
-            is_reliable: false,
-            hold: None,
-            leaves: false,
-            must_answer: false,
-        }
-    }
-
     /// The INVITE, with this URI in From.
     ///
     /// # Errors
@@ -65,20 +52,5 @@ impl CallPlan {
             },
             content: Content::of_body(body),
         })
-    }
-}
-
-impl Drop for CallPlan {
-    fn drop(self) {
-        let CallPlan {
-            to: _,
-            uri: _,
-            call_id: _,
-            body: _,
-            is_reliable: _,
-            hold: _,
-            leaves: _,
-            must_answer: _,
-        } = self;
     }
 }

@@ -11,14 +11,13 @@ use sip_transactions::DropReason;
 use sip_user::{Notice, UserCommand};
 use std::alloc::{AllocError, Global};
 use std::collections::BTreeSet;
-use std::fmt;
-use std::io::Write;
+use std::io::{self, Write};
 use std::rt::Files;
 
 /// The final response to an INVITE that was cancelled (RFC 3261, section 9.2).
 const REQUEST_TERMINATED: u16 = 487;
 
-/// What is counted in any run.
+/// What is counted.
 #[derive(Clone, Copy)]
 enum Counted {
     Rounds,
@@ -44,13 +43,15 @@ enum Counted {
     Held,
     /// Datagrams for which the line of the listener had no room.
     Unposted,
+    /// Responses that weren't sent since their request came again from another address.
+    Reflected,
 }
 
 /// How many of them there are.
-const TOTALS: usize = 14;
+const TOTALS: usize = 15;
 
-/// What each of them is called, in their order.
-const NAMES: [&str; TOTALS] = [
+/// What each of them is called, in their order. The last is told only if there is one.
+const NAMES: [&str; TOTALS - 1] = [
     "rounds",
     "datagrams read",
     "keep-alives",
@@ -72,12 +73,7 @@ const NAMES: [&str; TOTALS] = [
 pub(crate) struct Tally {
     pub(crate) admission: Admission,
     pub(crate) unsent: u64,
-    counts: Option<Counts>,
-}
-
-/// The counts of a run, with the agent's address.
-#[derive(Drop)]
-struct Counts {
+    is_counted: bool,
     alloc: Global,
     local: Addr,
     totals: [u64; TOTALS],
@@ -85,12 +81,6 @@ struct Counts {
     before: Sent,
     // The INVITEs that have no outcome so far.
     open: BTreeSet<Id>,
-    // Datagrams that the system dropped before they were read, if it says.
-    by_system: Option<u64>,
-    // Datagrams that weren't taken since too much was held, if there is a limit.
-    shed: Option<u64>,
-    // Responses that weren't sent since their request came again from another address.
-    reflected: u64,
 }
 
 /// How many datagrams were dropped for one reason.
@@ -106,11 +96,13 @@ impl Tally {
         Tally {
             admission: Admission::new(endpoint.held_limit, endpoint.request_limits),
             unsent: 0,
-            counts: if endpoint.is_counted {
-                Some(Counts::new(alloc, endpoint.config.local))
-            } else {
-                None
-            },
+            is_counted: endpoint.is_counted,
+            alloc,
+            local: endpoint.config.local,
+            totals: [0; TOTALS],
+            dropped: Vec::new(alloc),
+            before: Sent::new(alloc),
+            open: BTreeSet::new(alloc),
         }
     }
 
@@ -128,24 +120,37 @@ impl Tally {
         held: (u128, u128),
         reflected: usize,
     ) -> Result<(), AllocError> {
-        let Some(counts) = &mut self.counts else {
+        if !self.is_counted {
             return Ok(());
-        };
-        counts.reflected = counts.reflected.saturating_add(reflected as u64);
-        counts.add(number, round, outputs, held)
+        }
+        self.count(Counted::Rounds, 1);
+        self.count(Counted::Reflected, reflected as u64);
+        let held = u64::try_from(held.0.saturating_add(held.1)).unwrap_or(u64::MAX);
+        let most = self.totals[Counted::Held as usize];
+        self.count(Counted::Held, held.saturating_sub(most));
+        let events = round.events.as_slice();
+        let refused = refused_places(self.alloc, outputs)?;
+        self.add_events(number, events, &refused)?;
+        for placed in outputs {
+            self.add_output(round.moment, events, &placed.output)?;
+        }
+        Ok(())
     }
 
-    /// Adds what another agent counted, but not what it couldn't send.
+    /// Adds what another agent counted at the same address, whose ids are others, but not what it
+    /// couldn't send. The most that this one and the other held are added, too, though they may not
+    /// have held them at one time.
     ///
     /// # Errors
     ///
     /// Memory ran out.
     pub(crate) fn add_all(&mut self, other: &Tally) -> Result<(), AllocError> {
         self.admission.add(other.admission);
-        match (&mut self.counts, &other.counts) {
-            (Some(counts), Some(more)) => counts.add_all(more),
-            _ => Ok(()),
+        for (index, more) in other.totals.iter().enumerate() {
+            self.totals[index] = self.totals[index].saturating_add(*more);
         }
+        self.count(Counted::Open, other.open.len() as u64);
+        self.add_all_dropped(&other.dropped)
     }
 
     /// Writes the counts, if that was asked for. So many datagrams couldn't be sent, and for so
@@ -157,70 +162,17 @@ impl Tally {
         unposted: u64,
         errors: &mut E,
     ) {
-        if let Some(counts) = &mut self.counts {
-            counts.add_losses(unsent, unposted);
-            counts.by_system = system_drops(rt, counts.alloc, counts.local);
-            counts.shed = self.admission.shed();
-            let _ = writeln!(errors, "ua: {counts}");
+        if !self.is_counted {
+            return;
         }
-    }
-}
-
-impl Counts {
-    fn new(alloc: Global, local: Addr) -> Counts {
-        Counts {
-            alloc,
-            local,
-            totals: [0; TOTALS],
-            dropped: Vec::new(alloc),
-            before: Sent::new(alloc),
-            open: BTreeSet::new(alloc),
-            by_system: None,
-            shed: None,
-            reflected: 0,
-        }
-    }
-
-    // Counts the round with this number, after which `held` transactions and calls are held.
-    fn add(
-        &mut self,
-        number: u64,
-        round: &Round,
-        outputs: &[PlacedOutput],
-        held: (u128, u128),
-    ) -> Result<(), AllocError> {
-        self.count(Counted::Rounds, 1);
-        let held = u64::try_from(held.0.saturating_add(held.1)).unwrap_or(u64::MAX);
-        let most = self.totals[Counted::Held as usize];
-        self.count(Counted::Held, held.saturating_sub(most));
-        let events = round.events.as_slice();
-        self.add_events(number, events, outputs)?;
-        for placed in outputs {
-            self.add_output(round.moment, events, &placed.output)?;
-        }
-        Ok(())
-    }
-
-    // Adds the counts of another agent at the same address, whose ids are others. The most that
-    // this one and the other held are added, too, though they may not have held them at one time.
-    fn add_all(&mut self, other: &Counts) -> Result<(), AllocError> {
-        for (index, more) in other.totals.iter().enumerate() {
-            self.totals[index] = self.totals[index].saturating_add(*more);
-        }
-        self.count(Counted::Open, other.open.len() as u64);
-        self.reflected = self.reflected.saturating_add(other.reflected);
-        self.add_all_dropped(&other.dropped)
-    }
-
-    // Adds what is counted elsewhere: the datagrams that couldn't be sent, and those for which the
-    // line of the listener had no room.
-    fn add_losses(&mut self, unsent: u64, unposted: u64) {
         let sent = self.totals[Counted::Sent as usize];
         self.totals[Counted::Sent as usize] = sent.saturating_sub(unsent);
         self.count(Counted::Unsent, unsent);
         self.count(Counted::Unposted, unposted);
         let open = self.open.len() as u64;
         self.count(Counted::Open, open);
+        let by_system = system_drops(rt, self.alloc, self.local);
+        let _ = self.write(by_system, errors);
     }
 
     fn count(&mut self, counted: Counted, more: u64) {
@@ -234,30 +186,18 @@ impl Counts {
         &mut self,
         round: u64,
         events: &[Event],
-        outputs: &[PlacedOutput],
+        refused: &[u32],
     ) -> Result<(), AllocError> {
-        let refused = refused_places(self.alloc, outputs)?;
         let mut place = 0u32;
         for event in events {
             place = place.saturating_add(1);
             match event {
                 Event::Datagram { .. } => self.count(Counted::Datagrams, 1),
                 Event::Command(command) if !refused.contains(&place) => {
-                    self.add_command(Id { round, place }, command)?;
+                    self.add_step(asked_by(Id { round, place }, command))?;
                 }
                 _ => {}
             }
-        }
-        Ok(())
-    }
-
-    fn add_command(&mut self, id: Id, command: &UserCommand) -> Result<(), AllocError> {
-        match command {
-            UserCommand::Invite(_) => return self.begin(id),
-            UserCommand::Respond(respond) if respond.status >= 200 => {
-                self.end(respond.id, outcome_of(respond.status));
-            }
-            _ => {}
         }
         Ok(())
     }
@@ -283,38 +223,21 @@ impl Counts {
                 }
                 _ => self.add_dropped(*reason, 1),
             },
-            Output::Notice(notice) => self.add_notice(notice),
+            Output::Notice(notice) => self.add_step(told_by(notice)),
         }
     }
 
-    fn add_notice(&mut self, notice: &Notice) -> Result<(), AllocError> {
-        match notice {
-            Notice::Request { id, method, .. } if method.as_slice() == b"INVITE".as_slice() => {
-                return self.begin(*id);
+    // Counts an INVITE, or the outcome of a request if it is an INVITE that has none so far.
+    fn add_step(&mut self, step: Option<(Id, Counted)>) -> Result<(), AllocError> {
+        match step {
+            Some((id, Counted::Invites)) => {
+                self.open.insert(id)?;
+                self.count(Counted::Invites, 1);
             }
-            Notice::Response { id, status, .. } if status.code() >= 200 => {
-                self.end(*id, outcome_of(status.code()));
-            }
-            Notice::Timeout { id, .. } | Notice::Failed { id, .. } => {
-                self.end(*id, Counted::Unanswered);
-            }
-            Notice::Cancel { id, .. } => self.end(*id, Counted::Cancelled),
+            Some((id, outcome)) if self.open.remove(&id) => self.count(outcome, 1),
             _ => {}
         }
         Ok(())
-    }
-
-    fn begin(&mut self, id: Id) -> Result<(), AllocError> {
-        self.open.insert(id)?;
-        self.count(Counted::Invites, 1);
-        Ok(())
-    }
-
-    // The outcome of a request, if it is an INVITE that has none so far.
-    fn end(&mut self, id: Id, outcome: Counted) {
-        if self.open.remove(&id) {
-            self.count(outcome, 1);
-        }
     }
 
     fn add_all_dropped(&mut self, dropped: &[Dropped]) -> Result<(), AllocError> {
@@ -335,51 +258,74 @@ impl Counts {
         Ok(())
     }
 
-    // The counts of the datagrams that were dropped, by their reasons.
-    fn write_dropped<W: fmt::Write>(&self, f: &mut fmt::Formatter<W>) -> fmt::Result {
-        for dropped in &self.dropped {
-            write_count(f, dropped.count, "dropped as ")?;
-            match dropped.reason {
-                DropReason::NotOurs => f.write_str("NotOurs")?,
-                DropReason::NoTransaction => f.write_str("NoTransaction")?,
-                DropReason::Unreadable(fault) => write!(f, "{fault}")?,
-            }
-        }
-        Ok(())
-    }
-
-    // The counts that are told only if there is something to tell.
-    fn write_others<W: fmt::Write>(&self, f: &mut fmt::Formatter<W>) -> fmt::Result {
-        let others = [
-            (self.by_system, "lost by the system"),
-            (self.shed, "shed"),
-            ((self.reflected > 0).then_some(self.reflected), "reflected"),
-        ];
-        for (count, name) in others {
-            if let Some(count) = count {
-                write_count(f, count, name)?;
-            }
-        }
-        Ok(())
-    }
-}
-
-impl fmt::Display for Counts {
-    fn fmt<W: fmt::Write>(&self, f: &mut fmt::Formatter<W>) -> fmt::Result {
+    // Writes the counts in one line, with how many datagrams the system dropped before they were
+    // read, if it says.
+    fn write<E: Write>(&self, by_system: Option<u64>, errors: &mut E) -> io::Result<()> {
         let local = self.local;
-        write!(f, "local {local}")?;
+        write!(errors, "ua: local {local}")?;
         for (index, name) in NAMES.iter().enumerate() {
             if index == Counted::Sent as usize {
-                self.write_dropped(f)?;
+                self.write_dropped(errors)?;
             }
-            write_count(f, self.totals[index], name)?;
+            write_count(Some(self.totals[index]), name, errors)?;
         }
-        self.write_others(f)
+        write_count(by_system, "lost by the system", errors)?;
+        write_count(self.admission.shed(), "shed", errors)?;
+        let reflected = self.totals[Counted::Reflected as usize];
+        write_count((reflected > 0).then_some(reflected), "reflected", errors)?;
+        errors.write_all(b"\n")
+    }
+
+    // Writes the counts of the datagrams that were dropped, by their reasons.
+    fn write_dropped<E: Write>(&self, errors: &mut E) -> io::Result<()> {
+        for dropped in &self.dropped {
+            let Dropped { reason, count } = *dropped;
+            let name = match reason {
+                DropReason::NotOurs => "NotOurs",
+                DropReason::NoTransaction => "NoTransaction",
+                DropReason::Unreadable(fault) => {
+                    write!(errors, ", {count} dropped as {fault}")?;
+                    continue;
+                }
+            };
+            write!(errors, ", {count} dropped as {name}")?;
+        }
+        Ok(())
     }
 }
 
-fn write_count<W: fmt::Write>(f: &mut fmt::Formatter<W>, count: u64, name: &str) -> fmt::Result {
-    write!(f, ", {count} {name}")
+// Writes a count, if it is known.
+fn write_count<E: Write>(count: Option<u64>, name: &str, errors: &mut E) -> io::Result<()> {
+    match count {
+        Some(count) => write!(errors, ", {count} {name}"),
+        None => Ok(()),
+    }
+}
+
+// What a notice says of a request: that it is an INVITE, or its outcome.
+fn told_by(notice: &Notice) -> Option<(Id, Counted)> {
+    match notice {
+        Notice::Request { id, method, .. } if method.as_slice() == b"INVITE".as_slice() => {
+            Some((*id, Counted::Invites))
+        }
+        Notice::Response { id, status, .. } if status.code() >= 200 => {
+            Some((*id, outcome_of(status.code())))
+        }
+        Notice::Timeout { id, .. } | Notice::Failed { id, .. } => Some((*id, Counted::Unanswered)),
+        Notice::Cancel { id, .. } => Some((*id, Counted::Cancelled)),
+        _ => None,
+    }
+}
+
+// What the command with this id says of a request.
+fn asked_by(id: Id, command: &UserCommand) -> Option<(Id, Counted)> {
+    match command {
+        UserCommand::Invite(_) => Some((id, Counted::Invites)),
+        UserCommand::Respond(respond) if respond.status >= 200 => {
+            Some((respond.id, outcome_of(respond.status)))
+        }
+        _ => None,
+    }
 }
 
 // The outcome that a final response with this status gives an INVITE.

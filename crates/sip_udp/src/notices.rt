@@ -13,7 +13,7 @@ use crate::fault::UaFault;
 use sip_files::{FileKind, write_header_line, write_output};
 use sip_message::{Addr, Id};
 use sip_reader::{HeaderLine, header_lines};
-use sip_round::{Event, Output, PlacedOutput, Round, datagram_at, event_at};
+use sip_round::{Event, Output, PlacedOutput, datagram_at, event_at};
 use sip_text::{Series, Text};
 use sip_transactions::DropReason;
 use std::alloc::{AllocError, Global};
@@ -28,11 +28,15 @@ pub(crate) struct Telling {
     pub(crate) drops: Option<u64>,
 }
 
-// Writes the line of each notice as it stands in an output file. If drops are told, it writes a
-// line for each, except those of keep-alives. In a session, the header lines of the datagram that
-// a notice is about stand before the notice's line. What is told of an output is written at once,
-// and nothing is flushed.
-fn write_notices<W: Write>(
+/// Writes the line of each notice as it stands in an output file. If drops are told, it writes a
+/// line for each, except those of keep-alives. In a session, the header lines of the datagram that
+/// a notice is about stand before the notice's line. What is told of an output is written at once,
+/// and all is flushed at the end.
+///
+/// # Errors
+///
+/// `Output` or `NoMemory`.
+pub(crate) fn write_notices<W: Write>(
     alloc: Global,
     writer: &mut W,
     telling: Telling,
@@ -47,22 +51,6 @@ fn write_notices<W: Write>(
         let text = told_text(alloc, telling, events, placed)?;
         write_text(writer, &text)?;
     }
-    Ok(())
-}
-
-/// Writes the notices of a round, and flushes.
-///
-/// # Errors
-///
-/// `Output` or `NoMemory`.
-pub(crate) fn write_round<W: Write>(
-    alloc: Global,
-    writer: &mut W,
-    telling: Telling,
-    round: &Round,
-    outputs: &[PlacedOutput],
-) -> Result<(), UaFault> {
-    write_notices(alloc, writer, telling, round.events.as_slice(), outputs)?;
     match writer.flush() {
         Ok(()) => Ok(()),
         Err(_) => Err(UaFault::Output),
@@ -99,7 +87,8 @@ fn told_text(
 {
     let headers = headers_of(alloc, telling.kind, events, placed)?;
     let mut text = spelled(alloc, headers.as_slice())?;
-    add_line(alloc, &mut text, telling.drops, events, &placed.output)?;
+    let line = line_of(alloc, telling.drops, events, &placed.output)?;
+    text.extend_from_slice(&line)?;
     Ok(text)
 }
 
@@ -142,28 +131,18 @@ fn spelled(alloc: Global, headers: &[HeaderLine]) -> Result<Vec<u8>, AllocError>
     Ok(text)
 }
 
-fn write_text<W: Write>(writer: &mut W, text: &[u8]) -> Result<(), UaFault>
+/// Writes all bytes, and flushes nothing.
+///
+/// # Errors
+///
+/// `Output`.
+pub(crate) fn write_text<W: Write>(writer: &mut W, text: &[u8]) -> Result<(), UaFault>
     ensures { OnOk result (Appends (W.contents writer.old) (W.contents writer.new) text.now) }
 {
     match writer.write_all(text) {
         Ok(()) => Ok(()),
         Err(_) => Err(UaFault::Output),
     }
-}
-
-// Adds the line of an output, if it has one.
-fn add_line(
-    alloc: Global,
-    text: &mut Vec<u8>,
-    drops: Option<u64>,
-    events: &[Event],
-    output: &Output,
-) -> Result<(), AllocError>
-    ensures { OnOk result (text.new.items
-        ≡ text.old.items ++ told_line drops events.now output.now) }
-{
-    let line = line_of(alloc, drops, events, output)?;
-    text.extend_from_slice(&line)
 }
 
 // The line of an output; no text if it has none.

@@ -6,7 +6,7 @@ use sip_files::{EventsFault, FileKind, first_round_of, read_file, write_file_hea
 use sip_round::Config;
 use std::alloc::Global;
 
-/// How many bytes are read at once.
+/// How many bytes are read at once at least.
 const CHUNK: usize = 65_536;
 
 /// How far a journal was read. A last line without its end is left out: the process died while it
@@ -104,25 +104,20 @@ impl Past {
         self.has_ended && whole_lines(left).is_empty()
     }
 
-    // Reads at least as much again as is left, or what there is.
+    // Reads as much again as is left, or what there is.
     fn read_more<F: RecordFile>(&mut self, file: &mut F) -> Result<(), UaFault> {
         self.before = self.given();
         self.text = self.text.split_off(self.given.min(self.text.len()))?;
         self.given = 0;
-        let mut buffer = vec![in self.alloc; 0u8; CHUNK]?;
-        for _ in 0..=self.text.len() / CHUNK {
-            let Ok(count) = file.read_past(&mut buffer) else {
-                return Err(UaFault::Journal);
-            };
-            let Some(bytes) = buffer.get(..count) else {
-                return Err(UaFault::Journal);
-            };
-            if bytes.is_empty() {
-                self.has_ended = true;
-                return Ok(());
-            }
-            self.text.extend_from_slice(bytes)?;
-        }
+        let mut buffer = vec![in self.alloc; 0u8; self.text.len().max(CHUNK)]?;
+        let Ok(count) = file.read_past(&mut buffer) else {
+            return Err(UaFault::Journal);
+        };
+        let Some(bytes) = buffer.get(..count) else {
+            return Err(UaFault::Journal);
+        };
+        self.has_ended = bytes.is_empty();
+        self.text.extend_from_slice(bytes)?;
         Ok(())
     }
 }

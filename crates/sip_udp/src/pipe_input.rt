@@ -20,7 +20,17 @@ use std::sync::atomic::{AtomicBool, Ordering};
 use std::thread;
 
 /// The longest line that is looked at, in bytes without its end. Comments may be longer.
-pub(crate) const MAX_LINE: usize = 1 << 20;
+const MAX_LINE: usize = 1 << 20;
+
+const TOO_LONG: Wrong = Wrong {
+    word: None,
+    what: "longer than 1048576 bytes",
+};
+
+const NO_HEADER: Wrong = Wrong {
+    word: None,
+    what: "expected a header line of a user",
+};
 
 /// A line of the pipe.
 #[derive(Drop)]
@@ -108,9 +118,9 @@ fn said_by(alloc: Global, kind: FileKind, number: u64, text: &[u8]) -> Result<Pi
     let line = without_end(text);
     let said = line_says(alloc, kind, line)?;
     let wrong = match &said {
-        Said::NoCommand => Some(Wrong::Word(wrong_word(alloc, kind, line)?)),
-        Said::NoHeader => Some(Wrong::Header),
-        Said::TooLong => Some(Wrong::Length),
+        Said::NoCommand => Some(wrong_word(alloc, kind, line)?),
+        Said::NoHeader => Some(NO_HEADER),
+        Said::TooLong => Some(TOO_LONG),
         _ => None,
     };
     Ok(PipeLine {

@@ -75,25 +75,11 @@ struct Signals {
 }
 
 impl QueuedWriter {
-    /// Starts the thread that writes to this stream. The writer has one end.
+    /// Starts the thread that writes to this stream, and gives so many other ends.
     ///
     /// # Errors
     ///
     /// `NoMemory`; `Socket`, where the system has no more threads or sockets.
-    pub fn start<R: Threads + Net, W: Write + Send + Drop + 'static>(
-        rt: &R,
-        alloc: Global,
-        stream: W,
-    ) -> Result<QueuedWriter, UaFault> {
-        let (writer, _) = QueuedWriter::start_with(rt, alloc, stream, 0)?;
-        Ok(writer)
-    }
-
-    /// The same, with so many other ends.
-    ///
-    /// # Errors
-    ///
-    /// The same.
     pub fn start_with<R: Threads + Net, W: Write + Send + Drop + 'static>(
         rt: &R,
         alloc: Global,
@@ -228,10 +214,7 @@ fn write_until_over<W: Write>(
             return Err(io::Error::from(ErrorKind::OutOfMemory));
         };
         if !pieces.is_empty() {
-            signals
-                .waiting
-                .fetch_sub(notices_in(&pieces), Ordering::SeqCst);
-            write_pieces(alloc, stream, &pieces)?;
+            write_pieces(alloc, stream, &pieces, &signals.waiting)?;
         } else if is_over {
             break;
         } else {
@@ -241,22 +224,20 @@ fn write_until_over<W: Write>(
     Ok(())
 }
 
-fn notices_in(pieces: &[Piece]) -> u64 {
-    let mut notices = 0u64;
-    for piece in pieces {
-        notices = notices.saturating_add(piece.notices);
-    }
-    notices
-}
-
-// Writes these pieces by one call, and flushes.
-fn write_pieces<W: Write>(alloc: Global, stream: &mut W, pieces: &[Piece]) -> io::Result<()>
+// Writes these pieces by one call, and flushes. Their notices don't wait any more.
+fn write_pieces<W: Write>(
+    alloc: Global,
+    stream: &mut W,
+    pieces: &[Piece],
+    waiting: &AtomicU64,
+) -> io::Result<()>
     ensures { OnOk result (Appends (W.contents stream.old) (W.contents stream.new)
         (flat_map (λ piece. piece.text.items) pieces.now)) }
 {
     let mut text = Vec::new(alloc);
     for piece in pieces {
         text.extend_from_slice(&piece.text)?;
+        waiting.fetch_sub(piece.notices, Ordering::SeqCst);
     }
     put(stream, &text)
 }

@@ -199,7 +199,7 @@ impl<F: RecordFile> Record<F> {
         self.file = None;
         match self.keeping {
             Keeping::MayFail => {
-                let _ = writeln!(errors, "ua: record failed");
+                let _ = errors.write_all(b"ua: record failed\n");
                 let _ = writeln!(errors, "ua: --record: {why}");
                 Ok(())
             }

@@ -10,7 +10,9 @@ use std::net::Ipv4Addr;
 const AUDIO: &[u8] = b"m=audio 9 RTP/AVP 0 8";
 
 /// The protocols of the streams that an answer accepts (RFC 3551; RFC 4585).
-const TAKEN: [&[u8]; 2] = [b"RTP/AVP", b"RTP/AVPF"];
+const AVP: &[u8] = b"RTP/AVP";
+
+const AVPF: &[u8] = b"RTP/AVPF";
 
 /// The answer to the description in an offer: each of its streams over RTP is inactive, and all
 /// others are refused. If the body isn't a description, it is an offer of one inactive audio
@@ -65,19 +67,19 @@ fn put_stream(text: &mut Text, line: &[u8]) -> Result<bool, AllocError> {
         return Ok(false);
     };
     let is_taken = match cut(b' ', after) {
-        Some((protocol, _)) => {
-            port != b"0".as_slice() && TAKEN.iter().any(|taken| protocol == *taken)
-        }
+        Some((protocol, _)) => port != b"0".as_slice() && (protocol == AVP || protocol == AVPF),
         None => false,
     };
     // The discard port, since no port is used, or that of a refused stream.
-    let own_port = if is_taken { b" 9 ".as_slice() } else { b" 0 " };
+    let (own_port, end) = if is_taken {
+        (b" 9 ".as_slice(), b"\r\na=inactive\r\n".as_slice())
+    } else {
+        (b" 0 ".as_slice(), b"\r\n".as_slice())
+    };
     text.extend_from_slice(media)?;
     text.extend_from_slice(own_port)?;
-    put_line(text, after)?;
-    if is_taken {
-        put_line(text, b"a=inactive")?;
-    }
+    text.extend_from_slice(after)?;
+    text.extend_from_slice(end)?;
     Ok(is_taken)
 }
 

@@ -105,10 +105,13 @@ pub(crate) fn conclude<R: Files, F: RecordFile, E: Write>(
     requires { IfSome heard.ends (λ ends. AllZip EndsStation (desks_of own.old others.items)
         ends.items) }
 {
-    report(rt, &mut own.turns.tally, own.fault, &others, &heard, errors)?;
-    if let Some(ends) = heard.ends {
-        settle_all(&mut own.desk, others, ends)?;
-    }
+    let reported = report(rt, &mut own.turns.tally, own.fault, &others, &heard, errors);
+    let settled = match heard.ends {
+        Some(ends) => settle_all(&mut own.desk, others, ends),
+        None => Ok(()),
+    };
+    reported?;
+    settled?;
     if own.turns.user.is_satisfied() {
         Ok(())
     } else {

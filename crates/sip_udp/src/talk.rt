@@ -25,16 +25,16 @@ use crate::stations::{add, conclude, open_others, run_all};
 use crate::turns::MOST_COLLECTED;
 use crate::user::User;
 use sip_desk::Poster;
-use sip_message::{Addr, CallId, Uri};
+use sip_files::FileKind;
 use sip_round::Event;
 use std::alloc::Global;
-use std::io::{self, BufRead, Write};
+use std::io::{BufRead, Write};
 use std::net::{Net, UdpSocket};
 use std::rt::Files;
 use std::snapshot::Snapshot;
 use std::sync::Arc;
 use std::sync::atomic::Ordering;
-use std::thread::{self, Promise, Threads};
+use std::thread::{self, JoinHandle, Promise, Threads};
 use std::time::{Clock, Duration};
 
 /// How long the listener waits for a datagram, in ms.
@@ -42,26 +42,6 @@ const READ_TIMEOUT: u64 = 50;
 
 /// One more than the length of the longest datagram that is read, in bytes.
 const BUFFER: usize = 65_536;
-
-/// Takes part in calls for `turns` turns of 10 ms, as [`listen_at`] does: it answers INVITE, BYE and
-/// OPTIONS with 200. Each notice is written as a line of an output file.
-///
-/// # Errors
-///
-/// The first fault. All threads are joined then, too.
-pub fn listen<R: Threads + Clock + Files + Sync, W: Write>(
-    rt: &R,
-    alloc: Global,
-    socket: UdpSocket,
-    local: Addr,
-    seed: [u8; 32],
-    turns: u32,
-    notices: &mut W,
-) -> Result<(), UaFault> {
-    let endpoint = Endpoint::<Vec<u8>>::usual(socket, local, seed, turns);
-    let (plan, others) = (ListenPlan::usual(), Vec::new(alloc));
-    listen_at(rt, alloc, endpoint, plan, notices, others, &mut io::sink())
-}
 
 /// Takes part in calls at an endpoint: it answers INVITEs by a plan, BYE and OPTIONS with 200, and
 /// all other requests with 501. Each notice is written as a line of an output file. When the input
@@ -118,29 +98,6 @@ fn other_agents<F: RecordFile>(
     Ok(others)
 }
 
-/// Calls a URI at an address, ends each dialog that a 2xx confirms, and takes `turns` turns of 10
-/// ms. Each notice is written as a line of an output file.
-///
-/// # Errors
-///
-/// The first fault. All threads are joined then, too.
-pub fn call<R: Threads + Clock + Files + Sync, W: Write>(
-    rt: &R,
-    alloc: Global,
-    socket: UdpSocket,
-    local: Addr,
-    to: Addr,
-    uri: Uri,
-    call_id: CallId,
-    seed: [u8; 32],
-    turns: u32,
-    notices: &mut W,
-) -> Result<(), UaFault> {
-    let endpoint = Endpoint::<Vec<u8>>::usual(socket, local, seed, turns);
-    let plan = CallPlan::usual(alloc, to, uri, call_id);
-    call_from(rt, alloc, endpoint, plan, notices, &mut io::sink())
-}
-
 /// Calls from an endpoint by a plan, and ends each dialog that a 2xx confirms. Each notice is
 /// written as a line of an output file. When the input of the endpoint has ended, the call is
 /// cancelled or ended, and the turns end at most a second later. If recording is given up, `errors`
@@ -186,14 +143,7 @@ pub fn agent<
     errors: &mut E,
 ) -> Result<(), UaFault> {
     endpoint.turns = u64::MAX;
-    let (user, flags, mut line) = piped(rt, alloc, linger)?;
-    let their_flags = flags.clone()?;
-    let kind = endpoint.kind;
-    let Ok(feeder) = thread::spawn(rt, move || {
-        feed(alloc, kind, input, &mut line, their_flags)
-    }) else {
-        return Err(UaFault::Socket);
-    };
+    let (user, flags, feeder) = piped(rt, alloc, endpoint.kind, input, linger)?;
     let others = Vec::new(alloc);
     let end = talk(rt, alloc, endpoint, user, others, notices, errors);
     flags.stop.store(true, Ordering::SeqCst);
@@ -202,17 +152,28 @@ pub fn agent<
     Ok(())
 }
 
-// The user at the line of a pipe, and the flags and the poster of that line.
-fn piped<N: Net>(
-    rt: &N,
+// The user of a pipe, its flags, and the thread that reads the lines of the input.
+fn piped<R: Threads + Net, I: BufRead + Send + Drop + 'static>(
+    rt: &R,
     alloc: Global,
+    kind: FileKind,
+    input: I,
     linger: u32,
-) -> Result<(User, Arc<Flags>, Poster<PipeLine>), UaFault> {
-    let bell = bell_of(rt, alloc)?;
+) -> Result<(User, Arc<Flags>, JoinHandle<Result<bool, UaFault>>), UaFault> {
+    let Ok(bell) = Bell::new(rt) else {
+        return Err(UaFault::Socket);
+    };
+    let Ok(bell) = Arc::new(alloc, bell) else {
+        return Err(UaFault::NoMemory);
+    };
     let flags = flags_with(alloc, Some(&bell))?;
-    let (pipe, line) = one_line(alloc, MOST_COLLECTED)?;
+    let (pipe, mut line) = one_line(alloc, MOST_COLLECTED)?;
     let user = Piped::new(alloc, pipe, flags.clone()?, linger);
-    Ok((User::Piped(user), flags, line))
+    let theirs = flags.clone()?;
+    match thread::spawn(rt, move || feed(alloc, kind, input, &mut line, theirs)) {
+        Ok(feeder) => Ok((User::Piped(user), flags, feeder)),
+        Err(_) => Err(UaFault::Socket),
+    }
 }
 
 /// The ends of the listener's lines belong to their posters.
@@ -222,16 +183,6 @@ struct OfLines(Snapshot<Vec<Poster<Event>>>);
 impl Promise<Heard> for OfLines {
     ghost kept_by = { λ promise heard. IfSome heard.ends
         (λ ends. AllZip EndsLine promise.0.value.items ends.items) };
-}
-
-fn bell_of<N: Net>(rt: &N, alloc: Global) -> Result<Arc<Bell>, UaFault> {
-    let Ok(bell) = Bell::new(rt) else {
-        return Err(UaFault::Socket);
-    };
-    match Arc::new(alloc, bell) {
-        Ok(bell) => Ok(bell),
-        Err(_) => Err(UaFault::NoMemory),
-    }
 }
 
 fn flags_with(alloc: Global, bell: Option<&Arc<Bell>>) -> Result<Arc<Flags>, UaFault> {
@@ -254,7 +205,13 @@ struct Ears {
 }
 
 impl Ears {
-    fn new(alloc: Global, socket: &UdpSocket, flags: &Arc<Flags>) -> Result<Ears, UaFault> {
+    // With the flags, which the turns have, too.
+    fn new(
+        alloc: Global,
+        socket: &UdpSocket,
+        bell: Option<&Arc<Bell>>,
+    ) -> Result<(Ears, Arc<Flags>), UaFault> {
+        let flags = flags_with(alloc, bell)?;
         if socket
             .set_read_timeout(Some(Duration::from_millis(READ_TIMEOUT)))
             .is_err()
@@ -264,11 +221,12 @@ impl Ears {
         let Ok(socket) = socket.try_clone() else {
             return Err(UaFault::Socket);
         };
-        Ok(Ears {
+        let ears = Ears {
             socket,
             buffer: vec![in alloc; 0u8; BUFFER]?,
             flags: flags.clone()?,
-        })
+        };
+        Ok((ears, flags))
     }
 
     fn hear(self, alloc: Global, lines: Vec<Poster<Event>>) -> Heard
@@ -311,8 +269,8 @@ fn run_heard<R: Threads + Clock + Files + Sync, F: RecordFile, W: Write, E: Writ
 ) -> Result<(), UaFault>
     requires { AllZip IsPosterOf (desks_of own others.items) lines.items }
 {
-    let flags = flags_with(alloc, own.turns.user.bell())?;
-    let ears = Ears::new(alloc, &own.turns.endpoint.socket, &flags)?;
+    let (socket, bell) = (&own.turns.endpoint.socket, own.turns.user.bell());
+    let (ears, flags) = Ears::new(alloc, socket, bell)?;
     let of_lines = OfLines(Snapshot::of(&lines));
     let listening = move || -> Heard
         ensures { IfSome result.ends (λ ends. AllZip EndsLine lines.items ends.items) }

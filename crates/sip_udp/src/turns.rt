@@ -12,7 +12,7 @@ use crate::dropped_bytes::{put_back, take_dropped};
 use crate::endpoint::Endpoint;
 use crate::fault::UaFault;
 use crate::moments::Moments;
-use crate::notices::{Telling, put, write_ids, write_round};
+use crate::notices::{Telling, write_ids, write_notices, write_text};
 use crate::outlet::{CountedSocket, Outlet};
 use crate::record::Record;
 use crate::record_file::RecordFile;
@@ -111,23 +111,23 @@ impl<F: RecordFile> Turns<F> {
     ) -> Result<Turns<F>, UaFault> {
         let moments = Moments::new(rt)?;
         let config = endpoint.config;
-        let mut waiting = Vec::new(alloc);
-        user.begin(alloc, &mut waiting)?;
-        let mut record = endpoint.take_record();
-        record.begin(alloc, &config, errors)?;
         let agent = Agent::new(alloc, config, endpoint.division.shards, Spread)?;
-        Ok(Turns {
+        let mut turns = Turns {
             alloc,
             agent,
             user,
-            record,
+            record: endpoint.take_record(),
             limit: TimeLimit::new(endpoint.seconds, endpoint.input.take()),
             tally: Tally::new(alloc, &endpoint),
             endpoint,
             moments,
             number: config.first,
-            waiting,
-        })
+            waiting: Vec::new(alloc),
+        };
+        let begun = &mut turns;
+        begun.user.begin(alloc, &mut begun.waiting)?;
+        begun.record.begin(alloc, &config, errors)?;
+        Ok(turns)
     }
 
     /// Runs the rounds of the journal again, if there is one, without sending what they give. The
@@ -174,13 +174,12 @@ impl<F: RecordFile> Turns<F> {
         is_first: bool,
         errors: &mut E,
     ) -> Result<PastRound, UaFault> {
-        let asked = commands_in(self.alloc, round.events.as_slice())?;
-        if is_first && !asked.is_empty() {
-            self.waiting = Vec::new(self.alloc);
-        }
         let (alloc, number) = (self.alloc, self.number);
+        if is_first && has_commands(round.events.as_slice()) {
+            self.waiting = Vec::new(alloc);
+        }
         let (user, waiting) = (&mut self.user, &mut self.waiting);
-        skip_asked(alloc, user, waiting, round.moment, asked, errors)?;
+        skip_asked(alloc, user, waiting, &round, errors)?;
         let division = self.endpoint.division;
         let outputs = run(rt, &mut self.agent, division, number, &round)?;
         self.moments.last = round.moment;
@@ -237,16 +236,20 @@ impl<F: RecordFile> Turns<F> {
         ensures { KeepsLines desk.old desk.new }
     {
         let is_sparing = self.user.is_eager() || self.record.is_journal;
+        let limit = self.endpoint.division.most_events(self.record.is_journal);
         for _ in 0..MOST_ROUNDS {
             let now = self.moments.now(rt)?;
-            self.gather(now, turns_left, desk, errors)?;
+            self.gather(now, turns_left, limit, desk, errors)?;
             let waits = !self.waiting.is_empty();
             let holds = waits || self.agent.live() != (0, 0);
             if self.limit.is_past(self.moments.passed(now)) || self.user.is_over(now, holds) {
                 return Ok(TurnEnd::Over);
             }
-            let is_run = waits || !is_sparing || is_due(self.agent.next_due(), now);
-            let is_full = is_run && self.round(rt, now, notices, errors)?;
+            let is_due = matches!(self.agent.next_due(), Some(due) if due <= now);
+            let is_full = self.waiting.len() >= limit;
+            if waits || !is_sparing || is_due {
+                self.round(rt, now, limit, notices, errors)?;
+            }
             if !is_full {
                 return Ok(TurnEnd::Done);
             }
@@ -255,11 +258,12 @@ impl<F: RecordFile> Turns<F> {
     }
 
     // Gathers what the user asks for by itself, and what was posted and is admitted, unless a full
-    // round waits.
+    // round of so many events waits.
     fn gather<E: Write>(
         &mut self,
         now: u64,
         turns_left: u64,
+        limit: usize,
         desk: &mut Desk<Event>,
         errors: &mut E,
     ) -> Result<(), UaFault>
@@ -267,7 +271,6 @@ impl<F: RecordFile> Turns<F> {
     {
         let passed = self.moments.passed(now);
         self.limit.look(passed);
-        let limit = self.endpoint.division.most_events(self.record.is_journal);
         if self.waiting.len() >= limit {
             return Ok(());
         }
@@ -280,21 +283,20 @@ impl<F: RecordFile> Turns<F> {
         Ok(())
     }
 
-    // A round at this moment with the waiting events, which is recorded before its outputs are sent
-    // and told. Those above its limit go on waiting. Gives whether it had as many events as it may
-    // have. Responses that would go to a victim are left out.
+    // A round at this moment with the waiting events, so many at most, which is recorded before its
+    // outputs are sent and told. The others go on waiting. Responses that would go to a victim are
+    // left out.
     fn round<R: Threads + Clock + Sync, W: Write, E: Write>(
         &mut self,
         rt: &R,
         now: u64,
+        limit: usize,
         notices: &mut W,
         errors: &mut E,
-    ) -> Result<bool, UaFault> {
-        let limit = self.endpoint.division.most_events(self.record.is_journal);
+    ) -> Result<(), UaFault> {
         let rest = self.waiting.split_off(limit.min(self.waiting.len()))?;
         let events = mem::replace(&mut self.waiting, rest);
-        let is_full = events.len() >= limit;
-        let mut round = Round {
+        let round = Round {
             moment: now,
             events: Series::from_vec(events),
         };
@@ -302,41 +304,46 @@ impl<F: RecordFile> Turns<F> {
         let mut outputs = run(rt, &mut self.agent, division, number, &round)?;
         self.moments.last = now;
         let reflected = take_reflected(round.events.as_slice(), &mut outputs);
-        self.keep(&mut round, &outputs, errors)?;
-        let held = self.agent.live();
-        self.tally.add(number, &round, &outputs, held, reflected)?;
-        self.tell(&round, &outputs, notices)?;
-        Ok(is_full)
+        let round = self.keep(round, &outputs, errors)?;
+        self.tell(&round, &outputs, reflected, notices)
     }
 
-    // Records a round; a journal has the datagrams that were dropped without their bytes.
+    // Records a round, and gives it back. A journal has the datagrams that were dropped without
+    // their bytes.
     fn keep<E: Write>(
         &mut self,
-        round: &mut Round,
+        round: Round,
         outputs: &[PlacedOutput],
         errors: &mut E,
-    ) -> Result<(), UaFault> {
+    ) -> Result<Round, UaFault> {
         if !self.record.is_journal {
-            return self.record.add(self.alloc, round, errors);
+            self.record.add(self.alloc, &round, errors)?;
+            return Ok(round);
         }
-        let mut events = mem::replace(&mut round.events, Series::new(self.alloc)).into_vec();
+        let Round { moment, events } = round;
+        let mut events = events.into_vec();
         let dropped = take_dropped(self.alloc, &mut events, outputs)?;
-        round.events = Series::from_vec(events);
-        self.record.add(self.alloc, round, errors)?;
-        let mut events = mem::replace(&mut round.events, Series::new(self.alloc)).into_vec();
+        let events = Series::from_vec(events);
+        let round = Round { moment, events };
+        self.record.add(self.alloc, &round, errors)?;
+        let mut events = round.events.into_vec();
         put_back(&mut events, dropped);
-        round.events = Series::from_vec(events);
-        Ok(())
+        let events = Series::from_vec(events);
+        Ok(Round { moment, events })
     }
 
-    // Sends and tells the outputs of a round.
+    // Counts, sends and tells the outputs of a round, from which so many reflected responses were
+    // taken.
     fn tell<W: Write>(
         &mut self,
         round: &Round,
         outputs: &[PlacedOutput],
+        reflected: usize,
         notices: &mut W,
     ) -> Result<(), UaFault> {
         let number = self.number;
+        let held = self.agent.live();
+        self.tally.add(number, round, outputs, held, reflected)?;
         self.number = number.saturating_add(1);
         let mut outlet = CountedSocket {
             socket: &self.endpoint.socket,
@@ -354,7 +361,8 @@ impl<F: RecordFile> Turns<F> {
             kind: self.endpoint.kind,
             drops: tells_drops.then_some(number),
         };
-        write_round(self.alloc, notices, telling, round, outputs)
+        let events = round.events.as_slice();
+        write_notices(self.alloc, notices, telling, events, outputs)
     }
 }
 
@@ -372,14 +380,6 @@ fn run<R: Threads + Sync>(
         Ok(outputs) => Ok(outputs),
         Err(RoundFault::NoMemory { .. }) => Err(UaFault::NoMemory),
         Err(fault) => Err(UaFault::Round { number, fault }),
-    }
-}
-
-// Whether something is due at this moment.
-fn is_due(due: Option<u64>, now: u64) -> bool {
-    match due {
-        Some(due) => due <= now,
-        None => false,
     }
 }
 
@@ -415,16 +415,15 @@ fn skip_asked<E: Write>(
     alloc: Global,
     user: &mut User,
     waiting: &mut Vec<Event>,
-    now: u64,
-    mut asked: Vec<Vec<u8>>,
+    round: &Round,
     errors: &mut E,
 ) -> Result<(), AllocError> {
     if !user.is_eager() {
-        user.turn(alloc, now, TimeLeft::More, waiting, errors)?;
+        user.turn(alloc, round.moment, TimeLeft::More, waiting, errors)?;
     }
-    for event in mem::replace(waiting, Vec::new(alloc)) {
-        if asked.is_empty() || !take_same(alloc, &event, &mut asked)? {
-            waiting.push(event)?;
+    for event in round.events.as_slice() {
+        if let Event::Command(_) = event {
+            take_same(alloc, event, waiting)?;
         }
     }
     Ok(())
@@ -439,11 +438,10 @@ fn tell_again<W: Write>(
 ) -> Result<(), UaFault> {
     let number = last.number;
     let line = format!(in alloc; "resumed {number}\n")?;
-    if put(notices, line.as_bytes()).is_err() {
-        return Err(UaFault::Output);
-    }
+    write_text(notices, line.as_bytes())?;
     let telling = Telling { kind, drops: None };
-    write_round(alloc, notices, telling, &last.round, &last.outputs)
+    let events = last.round.events.as_slice();
+    write_notices(alloc, notices, telling, events, &last.outputs)
 }
 
 // Sends the outputs. What failed waits for the next round.
@@ -463,25 +461,31 @@ fn send<O: Outlet>(
     Ok(())
 }
 
-// The lines of those events that are commands.
-fn commands_in(alloc: Global, events: &[Event]) -> Result<Vec<Vec<u8>>, AllocError> {
-    let mut lines = Vec::new(alloc);
+fn has_commands(events: &[Event]) -> bool {
     for event in events {
         if let Event::Command(_) = event {
-            lines.push(write_event(alloc, event)?)?;
+            return true;
         }
     }
-    Ok(lines)
+    false
 }
 
-// Takes the line that says the same as this event out of these, if there is one.
-fn take_same(alloc: Global, event: &Event, lines: &mut Vec<Vec<u8>>) -> Result<bool, AllocError> {
-    let own = write_event(alloc, event)?;
-    match lines.iter().position(|line| *line == own) {
-        Some(index) => {
-            lines.remove(index);
-            Ok(true)
-        }
-        None => Ok(false),
+// Takes the first of these events that says the same as this one, if there is one.
+fn take_same(alloc: Global, event: &Event, events: &mut Vec<Event>) -> Result<(), AllocError> {
+    let line = write_event(alloc, event)?;
+    let index = index_of(alloc, &line, events)?;
+    if index < events.len() {
+        events.remove(index);
     }
+    Ok(())
+}
+
+// Where the first of these events stands whose line is this one; behind the last if there is none.
+fn index_of(alloc: Global, line: &[u8], events: &[Event]) -> Result<usize, AllocError> {
+    for (index, event) in events.iter().enumerate() {
+        if write_event(alloc, event)?.as_slice() == line {
+            return Ok(index);
+        }
+    }
+    Ok(events.len())
 }

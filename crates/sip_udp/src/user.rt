@@ -6,7 +6,6 @@ use crate::calling::Calling;
 use crate::piped::Piped;
 use crate::time_limit::TimeLeft;
 use sip_round::{Event, Output, PlacedOutput};
-use sip_user::Notice;
 use std::alloc::{AllocError, Global};
 use std::io::Write;
 use std::sync::Arc;
@@ -32,21 +31,6 @@ impl User {
         }
     }
 
-    // Adds what the user asks for when it is told this notice at the moment `now`.
-    fn told(
-        &mut self,
-        alloc: Global,
-        now: u64,
-        notice: &Notice,
-        events: &mut Vec<Event>,
-    ) -> Result<(), AllocError> {
-        match self {
-            User::Answering(answering) => answering.told(alloc, now, notice, events),
-            User::Calling(calling) => calling.told(alloc, now, notice, events),
-            User::Piped(_) => Ok(()),
-        }
-    }
-
     /// Adds what the user asks for when it is told the notices of a round at the moment `now`.
     ///
     /// # Errors
@@ -60,8 +44,13 @@ impl User {
         events: &mut Vec<Event>,
     ) -> Result<(), AllocError> {
         for placed in outputs {
-            if let Output::Notice(notice) = &placed.output {
-                self.told(alloc, now, notice, events)?;
+            let Output::Notice(notice) = &placed.output else {
+                continue;
+            };
+            match self {
+                User::Answering(answering) => answering.told(alloc, now, notice, events)?,
+                User::Calling(calling) => calling.told(alloc, now, notice, events)?,
+                User::Piped(_) => {}
             }
         }
         Ok(())

@@ -4,8 +4,8 @@ ghost use Rattle.std.specs.Prelude.{◌≡◌, ◌++◌, Some, [], IfOk, OnOk};
 ghost use Rattle.sip_udp.specs.Piping as piping;
 ghost use Rattle.sip_udp.specs.declared.pipe_input.Said.TheVariants as said;
 
-use crate::pipe_input::{MAX_LINE, PipeLine, Said};
-use crate::wrong_word::{Wrong, WrongWord};
+use crate::pipe_input::{PipeLine, Said};
+use crate::wrong_word::Wrong;
 use sip_files::{GivenHeader, with_given};
 use sip_round::Event;
 use sip_text::Series;
@@ -87,7 +87,7 @@ impl WaitingHeaders {
         ensures { self.new.headers ≡ Some [] }
     {
         let lines = mem::replace(self, WaitingHeaders::new(alloc));
-        tell(lines.lines, errors);
+        tell(&lines.lines, errors);
     }
 
     // Adds one more header line.
@@ -113,10 +113,10 @@ impl WaitingHeaders {
             ≡ events.old.items ++ piping.asked_by self.old.headers (said.Command command)) }
         ensures wait { OnOk result (self.new.headers ≡ Some []) }
     {
-        let lines = mem::replace(self, WaitingHeaders::new(alloc));
-        match command_with(alloc, lines.headers, command)? {
+        let WaitingHeaders { lines, headers } = mem::replace(self, WaitingHeaders::new(alloc));
+        match command_with(alloc, headers, command)? {
             Some(command) => events.push(Event::Command(command))?,
-            None => tell(lines.lines, errors),
+            None => tell(&lines, errors),
         }
         Ok(())
     }
@@ -136,31 +136,16 @@ fn command_with(
     }
 }
 
-fn tell<E: Write>(lines: Vec<Line>, errors: &mut E) {
+fn tell<E: Write>(lines: &[Line], errors: &mut E) {
     for line in lines {
-        let Line { number, wrong } = line;
+        let Line { number, wrong } = *line;
         let _ = writeln!(errors, "ua: line {number} is not a command");
-        match wrong {
-            Some(Wrong::Word(wrong)) => {
-                let WrongWord {
-                    number: word,
-                    expected,
-                } = wrong;
-                let _ = writeln!(
-                    errors,
-                    "ua: line {number}, word {word}: expected {expected}"
-                );
-            }
-            Some(Wrong::Header) => {
-                let _ = writeln!(
-                    errors,
-                    "ua: line {number}: expected a header line of a user"
-                );
-            }
-            Some(Wrong::Length) => {
-                let _ = writeln!(errors, "ua: line {number}: longer than {MAX_LINE} bytes");
-            }
-            None => {}
-        }
+        let Some(Wrong { word, what }) = wrong else {
+            continue;
+        };
+        let _ = match word {
+            Some(word) => writeln!(errors, "ua: line {number}, word {word}: expected {what}"),
+            None => writeln!(errors, "ua: line {number}: {what}"),
+        };
     }
 }

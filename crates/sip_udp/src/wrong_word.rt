@@ -6,22 +6,12 @@ use std::alloc::{AllocError, Global};
 
 /// What is wrong with a line, taken by itself.
 #[derive(Clone, Copy)]
-pub(crate) enum Wrong {
-    /// A word of a line that isn't a command.
-    Word(WrongWord),
-    /// It isn't a header line that a user may give.
-    Header,
-    /// It is too long.
-    Length,
-}
-
-/// The first word of a line with which it can't become a command.
-#[derive(Clone, Copy)]
-pub(crate) struct WrongWord {
-    /// The number of the word, from 1. The word may be the one that is missing at the end.
-    pub number: u64,
-    /// What has to stand there.
-    pub expected: &'static str,
+pub(crate) struct Wrong {
+    /// The number of the first word, from 1, with which the line can't become a command. It may be
+    /// the one that is missing at the end. None if it is the line that is wrong.
+    pub word: Option<u64>,
+    /// What has to stand there, or what is wrong with the line.
+    pub what: &'static str,
 }
 
 /// A field of a command: its name, and a text in its form.
@@ -151,16 +141,12 @@ const WORDS_OF_A_DIALOG: usize = 3;
 /// # Errors
 ///
 /// Memory ran out.
-pub(crate) fn wrong_word(
-    alloc: Global,
-    kind: FileKind,
-    line: &[u8],
-) -> Result<WrongWord, AllocError> {
+pub(crate) fn wrong_word(alloc: Global, kind: FileKind, line: &[u8]) -> Result<Wrong, AllocError> {
     let (keyword, mut left) = first_word(line);
     let Some(form) = form_of(kind, keyword, line) else {
-        return Ok(WrongWord {
-            number: 1,
-            expected: match kind {
+        return Ok(Wrong {
+            word: Some(1),
+            what: match kind {
                 FileKind::Events => COMMANDS,
                 FileKind::Session => COMMANDS_OF_A_SESSION,
             },
@@ -170,8 +156,11 @@ pub(crate) fn wrong_word(
     let mut number = 1u64;
     for (index, field) in form.fields.iter().enumerate() {
         number = number.saturating_add(1);
-        let Field(expected, _) = field;
-        let wrong = WrongWord { number, expected };
+        let Field(what, _) = field;
+        let wrong = Wrong {
+            word: Some(number),
+            what,
+        };
         let Some(rest) = left else {
             return Ok(wrong);
         };
@@ -188,9 +177,9 @@ pub(crate) fn wrong_word(
         }
         left = after;
     }
-    Ok(WrongWord {
-        number: number.saturating_add(1),
-        expected: "the end of the line",
+    Ok(Wrong {
+        word: Some(number.saturating_add(1)),
+        what: "the end of the line",
     })
 }
 

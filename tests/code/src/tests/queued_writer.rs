@@ -29,7 +29,8 @@ fn count_to_end(mut reader: PipeReader) -> u64 {
 #[test]
 fn an_output_that_is_read_late(rt: HostRuntime) -> Result<(), Fail> {
     let (reader, pipe) = io::pipe(&rt)?;
-    let mut writer = QueuedWriter::start(&rt, rt.alloc(), pipe).map_err(|_| "no writer")?;
+    let started = QueuedWriter::start_with(&rt, rt.alloc(), pipe, 0);
+    let (mut writer, _) = started.map_err(|_| "no writer")?;
     for _ in 0..PIECES {
         writer.write_all(PIECE)?;
         writer.flush()?;
@@ -48,7 +49,8 @@ fn an_output_that_is_read_late(rt: HostRuntime) -> Result<(), Fail> {
 fn an_output_that_is_closed(rt: HostRuntime) -> Result<(), Fail> {
     let (reader, pipe) = io::pipe(&rt)?;
     drop(reader);
-    let mut writer = QueuedWriter::start(&rt, rt.alloc(), pipe).map_err(|_| "no writer")?;
+    let started = QueuedWriter::start_with(&rt, rt.alloc(), pipe, 0);
+    let (mut writer, _) = started.map_err(|_| "no writer")?;
     writer.write_all(PIECE)?;
     writer.flush()?;
     let Written { lost, error } = writer.finish(&rt);

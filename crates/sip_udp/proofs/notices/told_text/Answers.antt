@@ -10,6 +10,9 @@ returns c =
     record {
       headers = c.in_ok-headers.headers;
       of_datagram = c.in_ok-headers.ensures;
-      spelled = c.in_ok-add_line.ensures ∙ ap (λ front. front ++ line)
+      spelled = c.in_ok-extend_from_slice.ensures.items
+          ∙ ap (λ back. c.in_ok-text.text.items ++ back)
+          (c.deref.ensures.value ∙ c.in_ok-line.ensures)
+          ∙ ap (λ front. front ++ line)
           (c.in_ok-text.ensures ∙ ap (flat_map spelled_header) c.as_slice.ensures);
     }

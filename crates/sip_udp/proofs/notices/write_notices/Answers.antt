@@ -1,5 +1,6 @@
 -- `write_notices` tells all outputs, in order.
 use Rattle.std.proofs.Common.{subst}
+use Rattle.std.proofs.KnownBytes.{Appends-kept}
 use Rattle.std.proofs.lemmas.List.{take_all}
 use Rattle.std.specs.Io.KnownBytes.{Appends}
 use Rattle.sip_files.proofs.Pushed.{taken}
@@ -19,7 +20,8 @@ loop-placed-preserved g c =
     (g.W.Write.contents c.write_text.new.writer) text) c.deref.ensures.value
     c.in_ok-write_text.ensures)
 
-pub returns : goal.returns
-returns g c =
-    rw (take_all c.loop-placed.placed-index c.args.outputs.now c.loop-placed-test.false) at
-    c.loop-placed.invariant
+pub returns-in-Ok : goal.returns-in-Ok
+returns-in-Ok g c =
+    let told = rw (take_all c.loop-placed.placed-index c.args.outputs.now
+    c.loop-placed-test.false) at c.loop-placed.invariant in
+    (told.0, told.1, Appends-kept _ _ _ told.0 told.2 c.flush.ensures.bytes)
