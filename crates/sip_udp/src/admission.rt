@@ -40,6 +40,14 @@ pub struct RequestLimits {
     pub vias: u32,
 }
 
+impl RequestLimits {
+    /// The usual ones.
+    pub const USUAL: RequestLimits = RequestLimits {
+        largest: 16_384,
+        vias: 70,
+    };
+}
+
 /// How many transactions an agent is to hold, what may begin one, and how many datagrams were shed.
 #[derive(Clone, Copy)]
 pub(crate) struct Admission {

@@ -28,6 +28,20 @@ pub struct CallPlan {
 }
 
 impl CallPlan {
+    /// A call to this URI at this address, without a body. It ends as soon as it is answered.
+    pub(crate) fn usual(alloc: Global, to: Addr, uri: Uri, call_id: CallId) -> CallPlan {
+        CallPlan {
+            to,
+            uri,
+            call_id,
+            body: Text::from_vec(Vec::new(alloc)),
+            is_reliable: false,
+            hold: None,
+            leaves: false,
+            must_answer: false,
+        }
+    }
+
     /// The INVITE, with this URI in From.
     ///
     /// # Errors

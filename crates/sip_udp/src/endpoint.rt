@@ -14,6 +14,7 @@ use crate::record::{Keeping, Record};
 use crate::record_file::RecordFile;
 use sip_agents::{STRIPE, config_of};
 use sip_files::FileKind;
+use sip_message::Addr;
 use sip_round::Config;
 use std::net::UdpSocket;
 use std::sync::Arc;
@@ -79,6 +80,33 @@ impl<F: Drop> Drop for Endpoint<F> {
 }
 
 impl<F> Endpoint<F> {
+    /// An endpoint at this address with the usual division, for so many turns. It begins with round
+    /// 0, and isn't recorded.
+    pub(crate) fn usual(socket: UdpSocket, local: Addr, seed: [u8; 32], turns: u32) -> Endpoint<F> {
+        Endpoint {
+            socket,
+            config: Config {
+                local,
+                seed,
+                first: 0,
+            },
+            division: Division::USUAL,
+            record: None,
+            keeping: Keeping::MayFail,
+            past: None,
+            kind: FileKind::Events,
+            is_counted: false,
+            is_announced: false,
+            tells_drops: false,
+            tells_ids: false,
+            turns: u64::from(turns),
+            seconds: None,
+            held_limit: None,
+            request_limits: RequestLimits::USUAL,
+            input: None,
+        }
+    }
+
     /// How many agents it has, each at its own thread: as many as its division says. There is one
     /// alone if the run is recorded, or if the number of its first round leaves no room for those
     /// of others.

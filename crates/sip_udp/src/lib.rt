@@ -64,4 +64,4 @@ pub use record::Keeping;
 pub use record_file::RecordFile;
 pub use sending::send_all;
 pub use socket_table::drops_in;
-pub use talk::{agent, call_from, listen_at};
+pub use talk::{agent, call, call_from, listen, listen_at};

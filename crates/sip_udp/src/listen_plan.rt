@@ -1,5 +1,6 @@
 //! How `listen` answers INVITEs.
 
+use crate::answer::SUCCESS;
 use crate::sdp;
 use sip_message::Uri;
 use sip_text::Text;
@@ -53,6 +54,18 @@ impl AnswerBody {
 }
 
 impl ListenPlan {
+    /// 200 at once, without a body.
+    pub(crate) fn usual() -> ListenPlan {
+        ListenPlan {
+            ring: None,
+            reliable: false,
+            status: SUCCESS,
+            body: AnswerBody::Nothing,
+            contact: None,
+            must_answer: 0,
+        }
+    }
+
     /// Whether its final response makes a dialog, as a 2xx does (RFC 3261, section 12.1).
     pub(crate) fn makes_dialogs(&self) -> bool {
         (200..=299).contains(&self.status)

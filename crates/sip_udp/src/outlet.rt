@@ -27,6 +27,15 @@ pub trait Outlet {
             (record { to = to; bytes = bytes.now; is_sent = result } ∷ []) };
 }
 
+/// A socket doesn't tell what it was asked to send.
+impl Outlet for UdpSocket {
+    ghost asked = { λ _. None };
+
+    fn send(&mut self, to: Addr, bytes: &[u8]) -> bool {
+        is_sent(self, to, bytes)
+    }
+}
+
 /// A socket, and how many sends failed.
 #[derive(Clone, Copy)]
 pub(crate) struct CountedSocket<'a> {
@@ -38,14 +47,19 @@ impl Outlet for CountedSocket<'_> {
     ghost asked = { λ _. None };
 
     fn send(&mut self, to: Addr, bytes: &[u8]) -> bool {
-        let address = SocketAddrV4::new(Ipv4Addr::from_octets(to.ip), to.port);
-        let is_sent = match self.socket.send_to(bytes, address) {
-            Ok(count) => count == bytes.len(),
-            Err(_) => false,
-        };
+        let is_sent = is_sent(self.socket, to, bytes);
         if !is_sent {
             self.failed = self.failed.saturating_add(1);
         }
         is_sent
+    }
+}
+
+// Sends a datagram, and says whether it could.
+fn is_sent(socket: &UdpSocket, to: Addr, bytes: &[u8]) -> bool {
+    let address = SocketAddrV4::new(Ipv4Addr::from_octets(to.ip), to.port);
+    match socket.send_to(bytes, address) {
+        Ok(count) => count == bytes.len(),
+        Err(_) => false,
     }
 }

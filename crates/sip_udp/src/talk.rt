@@ -26,9 +26,10 @@ use crate::turns::MOST_COLLECTED;
 use crate::user::User;
 use sip_desk::Poster;
 use sip_files::FileKind;
+use sip_message::{Addr, CallId, Uri};
 use sip_round::Event;
 use std::alloc::Global;
-use std::io::{BufRead, Write};
+use std::io::{self, BufRead, Write};
 use std::net::{Net, UdpSocket};
 use std::rt::Files;
 use std::snapshot::Snapshot;
@@ -42,6 +43,26 @@ const READ_TIMEOUT: u64 = 50;
 
 /// One more than the length of the longest datagram that is read, in bytes.
 const BUFFER: usize = 65_536;
+
+/// Takes part in calls for `turns` turns of 10 ms, as [`listen_at`] does: it answers INVITE, BYE and
+/// OPTIONS with 200. Each notice is written as a line of an output file.
+///
+/// # Errors
+///
+/// The first fault. All threads are joined then, too.
+pub fn listen<R: Threads + Clock + Files + Sync, W: Write>(
+    rt: &R,
+    alloc: Global,
+    socket: UdpSocket,
+    local: Addr,
+    seed: [u8; 32],
+    turns: u32,
+    notices: &mut W,
+) -> Result<(), UaFault> {
+    let endpoint = Endpoint::<Vec<u8>>::usual(socket, local, seed, turns);
+    let (plan, others) = (ListenPlan::usual(), Vec::new(alloc));
+    listen_at(rt, alloc, endpoint, plan, notices, others, &mut io::sink())
+}
 
 /// Takes part in calls at an endpoint: it answers INVITEs by a plan, BYE and OPTIONS with 200, and
 /// all other requests with 501. Each notice is written as a line of an output file. When the input
@@ -96,6 +117,29 @@ fn other_agents<F: RecordFile>(
         add(&mut others, agent)?;
     }
     Ok(others)
+}
+
+/// Calls a URI at an address, ends each dialog that a 2xx confirms, and takes `turns` turns of 10
+/// ms. Each notice is written as a line of an output file.
+///
+/// # Errors
+///
+/// The first fault. All threads are joined then, too.
+pub fn call<R: Threads + Clock + Files + Sync, W: Write>(
+    rt: &R,
+    alloc: Global,
+    socket: UdpSocket,
+    local: Addr,
+    to: Addr,
+    uri: Uri,
+    call_id: CallId,
+    seed: [u8; 32],
+    turns: u32,
+    notices: &mut W,
+) -> Result<(), UaFault> {
+    let endpoint = Endpoint::<Vec<u8>>::usual(socket, local, seed, turns);
+    let plan = CallPlan::usual(alloc, to, uri, call_id);
+    call_from(rt, alloc, endpoint, plan, notices, &mut io::sink())
 }
 
 /// Calls from an endpoint by a plan, and ends each dialog that a 2xx confirms. Each notice is
