@@ -14,11 +14,7 @@ use std::alloc::Global;
 use std::net::SocketAddrV4;
 
 /// The address that the word of an option spells, in the way of an event file: `a.b.c.d:port`.
-pub(crate) fn address_of<'a>(
-    alloc: Global,
-    option: &'a str,
-    word: &'a str,
-) -> Result<Addr, Failure<'a>>
+pub(crate) fn address_of(alloc: Global, option: &'static str, word: &str) -> Result<Addr, Failure>
     ensures { IfOk result (λ addr. word.now ≡ addr_text addr) }
 {
     if let Ok(address) = word.parse::<SocketAddrV4>() {
@@ -31,31 +27,22 @@ pub(crate) fn address_of<'a>(
             return Ok(addr);
         }
     }
-    Err(Failure::of_word(option, word, "not an address, as 192.0.2.1:5060"))
+    Err(Failure::of_word(option, "not an address, as 192.0.2.1:5060"))
 }
 
-/// The URI of an option.
-pub(crate) fn uri_of<'a>(
-    alloc: Global,
-    option: &'a str,
-    word: &'a str,
-) -> Result<Uri, Failure<'a>> {
+/// The URI that the word of an option spells.
+pub(crate) fn uri_of(alloc: Global, option: &'static str, word: &str) -> Result<Uri, Failure> {
     if !has_scheme(word) {
-        let wanted = "no scheme, as in sip:bob@192.0.2.9";
-        return Err(Failure::of_word(option, word, wanted));
+        return Err(Failure::of_word(option, "no scheme, as in sip:bob@192.0.2.9"));
     }
     let text = Text::copy_of(alloc, word.as_bytes())?;
-    Uri::new(text).ok_or(Failure::of_word(option, word, "not a URI"))
+    Uri::new(text).ok_or(Failure::of_word(option, "not a URI"))
 }
 
 /// The Call-ID of `--call-id`.
-pub(crate) fn call_id_of<'a>(
-    alloc: Global,
-    options: &ArgMatches<'a>,
-) -> Result<CallId, Failure<'a>> {
-    let word = text_of(options, "call-id");
-    let text = Text::copy_of(alloc, word.as_bytes())?;
-    CallId::new(text).ok_or(Failure::of_word("--call-id", word, "not a Call-ID"))
+pub(crate) fn call_id_of(alloc: Global, options: &ArgMatches) -> Result<CallId, Failure> {
+    let text = Text::copy_of(alloc, text_of(options, "call-id").as_bytes())?;
+    CallId::new(text).ok_or(Failure::of_word("call-id", "not a Call-ID"))
 }
 
 // Whether a text begins with a scheme and a colon.

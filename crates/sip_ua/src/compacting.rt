@@ -1,25 +1,25 @@
 //! What `ua compact` does.
 
 use crate::failure::Failure;
-use crate::host::{Access, Host, Journals, has_alone, open};
+use crate::host::{Access, Journals, has_alone, open};
 use crate::options::text_of;
 use crate::shortening::Readers;
 use clap::ArgMatches;
 use sip_stream::StreamFault;
 use sip_udp::UaFault;
 use std::alloc::Global;
-use std::fs::{self, File};
+use std::fs::File;
 use std::io::{self, Write};
 use std::thread::Threads;
 
 /// Writes a shorter journal, whose agent answers all that follows alike, to a new file. If none was
 /// found, it says so and writes the whole journal.
-pub(crate) fn compact_by<'a, T: Threads + Host, E: Write>(
+pub(crate) fn compact_by<T: Threads + Journals + Sync, E: Write>(
     rt: &T,
     alloc: Global,
-    options: &ArgMatches<'a>,
+    options: &ArgMatches,
     errors: &mut E,
-) -> Result<(), Failure<'a>> {
+) -> Result<(), Failure> {
     let path = text_of(options, "journal");
     let mut journal = own_journal(rt, path)?;
     let text = compact_text(rt, alloc, path)?;
@@ -29,36 +29,36 @@ pub(crate) fn compact_by<'a, T: Threads + Host, E: Write>(
     let into = text_of(options, "into");
     match write_new(rt, into, text, &mut journal) {
         Ok(()) => Ok(()),
-        Err(error) => Err(Failure::of_file(UaFault::Output, "--into", into, error)),
+        Err(error) => Err(Failure::of_file(UaFault::Output, "into", error)),
     }
 }
 
 // The journal, which this process has for itself from now on.
-fn own_journal<'a, T: Journals>(rt: &T, path: &'a str) -> Result<File, Failure<'a>> {
+fn own_journal<T: Journals>(rt: &T, path: &str) -> Result<File, Failure> {
     match open(rt, path, Access::Read) {
         Ok(journal) if has_alone(rt, &journal, path) => Ok(journal),
-        Ok(_) => Err(Failure::of_word("--journal", path, "another process has it")),
-        Err(error) => Err(unread(path, error)),
+        Ok(_) => Err(Failure::of_word("journal", "another process has it")),
+        Err(error) => Err(unread(error)),
     }
 }
 
 // A shorter text than that of the journal, if one was found.
-fn compact_text<'a, T: Threads + Host>(
+fn compact_text<T: Threads + Journals + Sync>(
     rt: &T,
     alloc: Global,
-    path: &'a str,
-) -> Result<Option<Vec<u8>>, Failure<'a>> {
+    path: &str,
+) -> Result<Option<Vec<u8>>, Failure> {
     match Readers::open(rt, path, u64::MAX) {
         Ok(mut readers) => match readers.compact(rt, alloc) {
             Ok(text) => Ok(text),
             Err(fault) => Err(Failure::from(fault_of(fault))),
         },
-        Err(error) => Err(unread(path, error)),
+        Err(error) => Err(unread(error)),
     }
 }
 
-fn unread<'a>(path: &'a str, error: io::Error) -> Failure<'a> {
-    Failure::of_file(UaFault::Journal, "--journal", path, error)
+fn unread(error: io::Error) -> Failure {
+    Failure::of_file(UaFault::Journal, "journal", error)
 }
 
 // Writes the text, or the whole journal, to a new file: none is overwritten. A part of it doesn't
@@ -72,7 +72,7 @@ fn write_new<T: Journals>(
     let mut file = open(rt, path, Access::AppendNew)?;
     let end = fill(&mut file, text, journal);
     if end.is_err() {
-        let _ = fs::remove_file(rt, path);
+        let _ = rt.remove(path);
     }
     end
 }

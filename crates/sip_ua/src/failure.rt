@@ -20,65 +20,83 @@ pub(crate) enum TalkFault {
 
 /// Why a command stopped, and what is known about the cause.
 #[derive(Clone, Copy)]
-pub(crate) struct Failure<'a> {
+pub(crate) struct Failure {
     pub(crate) fault: TalkFault,
-    pub(crate) cause: Option<Cause<'a>>,
+    pub(crate) cause: Option<Cause>,
 }
 
-/// What is known about a cause.
+/// What is known about a cause. An option is named as `clap` knows it.
 #[derive(Clone, Copy)]
-pub(crate) enum Cause<'a> {
+pub(crate) enum Cause {
     /// The word of an option isn't what it has to be.
     Word {
-        option: &'a str,
-        word: &'a str,
-        wanted: &'a str,
+        option: &'static str,
+        wanted: &'static str,
+    },
+    /// The status of `--answer` isn't what it has to be.
+    Answer {
+        status: &'static str,
+        wanted: &'static str,
     },
     /// What the system says about the file of an option.
     File {
-        option: &'a str,
-        path: &'a str,
+        option: &'static str,
         error: io::Error,
     },
-    /// What the system says about an address, or about one of its own streams or sources.
+    /// What the system says about the address of `--local`.
+    Local(io::Error),
+    /// What the system says about one of its own streams or sources.
     System {
-        name: &'a str,
+        name: &'static str,
         error: io::Error,
     },
 }
 
-impl<'a> Failure<'a> {
+impl Cause {
+    /// The option whose word is told with this cause, if there is one.
+    pub(crate) fn option(self) -> Option<&'static str> {
+        match self {
+            Cause::Word { option, .. } | Cause::File { option, .. } => Some(option),
+            Cause::Local(_) => Some("local"),
+            Cause::Answer { .. } | Cause::System { .. } => None,
+        }
+    }
+}
+
+/// A cause, and the word of its option.
+#[derive(Clone, Copy)]
+pub(crate) struct ToldCause<'a> {
+    pub(crate) cause: Cause,
+    pub(crate) word: &'a str,
+}
+
+impl Failure {
     /// The failure for an option whose word isn't what it has to be.
-    pub(crate) fn of_word(option: &'a str, word: &'a str, wanted: &'a str) -> Failure<'a> {
+    pub(crate) fn of_word(option: &'static str, wanted: &'static str) -> Failure {
         Failure {
             fault: TalkFault::BadArgument,
-            cause: Some(Cause::Word {
-                option,
-                word,
-                wanted,
-            }),
+            cause: Some(Cause::Word { option, wanted }),
+        }
+    }
+
+    /// The failure for the status of an answer that isn't what it has to be.
+    pub(crate) fn of_answer(status: &'static str, wanted: &'static str) -> Failure {
+        Failure {
+            fault: TalkFault::BadArgument,
+            cause: Some(Cause::Answer { status, wanted }),
         }
     }
 
     /// The failure for the file of an option.
-    pub(crate) fn of_file(
-        fault: UaFault,
-        option: &'a str,
-        path: &'a str,
-        error: io::Error,
-    ) -> Failure<'a> {
+    pub(crate) fn of_file(fault: UaFault, option: &'static str, error: io::Error) -> Failure {
         Failure {
             fault: TalkFault::Ua(fault),
-            cause: Some(Cause::File {
-                option,
-                path,
-                error,
-            }),
+            cause: Some(Cause::File { option, error }),
         }
     }
 
-    /// The failure for an address, or for a stream or a source of the system.
-    pub(crate) fn of_system(fault: UaFault, name: &'a str, error: io::Error) -> Failure<'a> {
+    /// The failure for a stream or a source of the system.
+    pub(crate) fn of_system(fault: UaFault, name: &'static str, error: io::Error) -> Failure {
         Failure {
             fault: TalkFault::Ua(fault),
             cause: Some(Cause::System { name, error }),
@@ -86,12 +104,12 @@ impl<'a> Failure<'a> {
     }
 }
 
-impl<'a> From<UaFault> for Failure<'a> {
+impl From<UaFault> for Failure {
     ghost use Rattle.sip_ua.specs.declared.failure.TalkFault.TheVariants.{Ua};
 
     ghost from_gives = { λ given failure. failure.fault ≡ Ua given };
 
-    fn from(fault: UaFault) -> Failure<'a> {
+    fn from(fault: UaFault) -> Failure {
         Failure {
             fault: TalkFault::Ua(fault),
             cause: None,
@@ -99,30 +117,25 @@ impl<'a> From<UaFault> for Failure<'a> {
     }
 }
 
-impl<'a> From<AllocError> for Failure<'a> {
+impl From<AllocError> for Failure {
     ghost use Rattle.sip_ua.specs.declared.failure.TalkFault.TheVariants.{Ua};
     ghost use Rattle.sip_udp.specs.declared.fault.UaFault.TheVariants.{NoMemory};
 
     ghost from_gives = { λ _ failure. failure.fault ≡ Ua NoMemory };
 
-    fn from(_error: AllocError) -> Failure<'a> {
+    fn from(_error: AllocError) -> Failure {
         Failure::from(UaFault::NoMemory)
     }
 }
 
-impl fmt::Display for Cause<'_> {
+impl fmt::Display for ToldCause<'_> {
     fn fmt<W: fmt::Write>(&self, f: &mut fmt::Formatter<W>) -> fmt::Result {
-        match self {
-            Cause::Word {
-                option,
-                word,
-                wanted,
-            } => write!(f, "{option} {word}: {wanted}"),
-            Cause::File {
-                option,
-                path,
-                error,
-            } => write!(f, "{option} {path}: {error}"),
+        let word = self.word;
+        match self.cause {
+            Cause::Word { option, wanted } => write!(f, "--{option} {word}: {wanted}"),
+            Cause::Answer { status, wanted } => write!(f, "--answer {status}: {wanted}"),
+            Cause::File { option, error } => write!(f, "--{option} {word}: {error}"),
+            Cause::Local(error) => write!(f, "{word}: {error}"),
             Cause::System { name, error } => write!(f, "{name}: {error}"),
         }
     }

@@ -2,9 +2,7 @@
 
 use crate::failure::Failure;
 use crate::host::{Access, Journals, open};
-use crate::options::text_of;
 use crate::repair::whole;
-use clap::ArgMatches;
 use sip_files::{FileKind, first_round_of, read_round};
 use sip_round::{Event, Round};
 use sip_udp::{CallPlan, UaFault};
@@ -22,23 +20,16 @@ const BEGINNING: u64 = 1 << 20;
 /// # Errors
 ///
 /// `BadArgument` with the option that asks for something else; `Journal`.
-pub(crate) fn check_call<'a, T: Journals>(
+pub(crate) fn check_call<T: Journals>(
     rt: &T,
     alloc: Global,
-    path: &'a str,
+    path: &str,
     plan: &CallPlan,
-    options: &ArgMatches<'a>,
-) -> Result<(), Failure<'a>> {
+) -> Result<(), Failure> {
     match first_round(rt, alloc, path) {
-        Ok(Some(first)) => match first.events.as_slice() {
-            [] => Ok(()),
-            [Event::Command(UserCommand::Invite(invite)), ..] => {
-                check_invite(invite, plan, options)
-            }
-            _ => Err(Failure::of_word("--journal", path, "not of a call")),
-        },
+        Ok(Some(first)) => check_events(first.events.as_slice(), plan),
         Ok(None) => Ok(()),
-        Err(error) => Err(Failure::of_file(UaFault::Journal, "--journal", path, error)),
+        Err(error) => Err(Failure::of_file(UaFault::Journal, "journal", error)),
     }
 }
 
@@ -56,19 +47,23 @@ fn round_after_head(alloc: Global, text: &[u8]) -> Option<Round> {
     read_round(alloc, first_round_of(rest)).ok()
 }
 
-fn check_invite<'a>(
-    invite: &Invite,
-    plan: &CallPlan,
-    options: &ArgMatches<'a>,
-) -> Result<(), Failure<'a>> {
-    let (option, id) = if invite.address != plan.to {
-        ("--to", "to")
+fn check_events(events: &[Event], plan: &CallPlan) -> Result<(), Failure> {
+    match events {
+        [] => Ok(()),
+        [Event::Command(UserCommand::Invite(invite)), ..] => check_invite(invite, plan),
+        _ => Err(Failure::of_word("journal", "not of a call")),
+    }
+}
+
+fn check_invite(invite: &Invite, plan: &CallPlan) -> Result<(), Failure> {
+    let option = if invite.address != plan.to {
+        "to"
     } else if invite.request_uri != plan.uri {
-        ("--uri", "uri")
+        "uri"
     } else if invite.call_id != plan.call_id {
-        ("--call-id", "call-id")
+        "call-id"
     } else {
         return Ok(());
     };
-    Err(Failure::of_word(option, text_of(options, id), "not that of the journal"))
+    Err(Failure::of_word(option, "not that of the journal"))
 }

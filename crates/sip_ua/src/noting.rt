@@ -2,14 +2,14 @@
 
 ghost use Rattle.std.specs.Prelude.{◌≡◌};
 
-use crate::failure::Cause;
+use crate::failure::{Cause, ToldCause};
 use std::io::{self, Read};
 
 /// Reads standard input. Keeps the error of the last read that failed.
 #[derive(Drop)]
 pub(crate) struct NotingRead<R> {
     reader: R,
-    pub(crate) cause: Option<Cause<'static>>,
+    pub(crate) cause: Option<ToldCause<'static>>,
 }
 
 impl<R> NotingRead<R> {
@@ -30,9 +30,12 @@ impl<R: Read> Read for NotingRead<R> {
     fn read(&mut self, buf: &mut [u8]) -> io::Result<usize> {
         let result = self.reader.read(buf);
         if let Err(error) = &result {
-            self.cause = Some(Cause::System {
-                name: "standard input",
-                error: *error,
+            self.cause = Some(ToldCause {
+                cause: Cause::System {
+                    name: "standard input",
+                    error: *error,
+                },
+                word: "",
             });
         }
         result

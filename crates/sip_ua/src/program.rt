@@ -30,7 +30,10 @@ use sip_udp::Division;
 use std::alloc::Global;
 use std::convert::AsStr;
 use std::io::{Read, Write};
+use std::net::Net;
+use std::rt::Files;
 use std::thread::Threads;
+use std::time::Clock;
 
 /// All that the program does, from its words to its status. The words don't include the program's
 /// own name.
@@ -43,7 +46,7 @@ use std::thread::Threads;
 /// help or the version is asked for, it is written to `output`. A fault is written to `errors`
 /// after `ua: `, and what is known about its cause on a line after it. A fault of the words is
 /// written as `clap` says it. A failed write to `errors` is ignored.
-pub fn ua<T: Threads + Host, S: AsStr, R: Read, W: Write, E: Write>(
+pub fn ua<T: Threads + Host + Clock + Files + Net, S: AsStr, R: Read, W: Write, E: Write>(
     rt: &T,
     alloc: Global,
     words: &[S],

@@ -8,7 +8,7 @@ use crate::host::{Access, Host, Journals, has_alone, is_at, open};
 use crate::shortening::{Readers, Shortening, Shorter};
 use sip_udp::RecordFile;
 use std::alloc::Global;
-use std::fs::{self, File, OpenFile};
+use std::fs::{File, OpenFile};
 use std::io::{self, ErrorKind, Read, Seek, SeekFrom, Write};
 use std::mem;
 use std::string::String;
@@ -29,22 +29,46 @@ pub(crate) struct JournalWords<'a> {
     pub is_synced: bool,
     /// Whether the run goes on if a write fails.
     pub may_fail: bool,
-    /// Whether it may be made shorter.
-    pub may_shorten: bool,
+}
+
+/// The paths of a journal. A record has none.
+#[derive(Drop)]
+struct Paths {
+    // Without symbolic links, since another file gets this name.
+    own: String,
+    // That of a shorter journal, until it has the name of this one.
+    shorter: String,
+    // That of this journal once it has failed.
+    failed: String,
+}
+
+impl Paths {
+    fn none(alloc: Global) -> Paths {
+        Paths {
+            own: String::new(alloc),
+            shorter: String::new(alloc),
+            failed: String::new(alloc),
+        }
+    }
+
+    fn of<T: Journals>(rt: &T, alloc: Global, path: &str) -> io::Result<Paths> {
+        let own = rt.canonical(alloc, path)?;
+        let shorter = format!(in alloc; "{own}.being-compacted")?;
+        let failed = format!(in alloc; "{own}.failed")?;
+        Ok(Paths {
+            own,
+            shorter,
+            failed,
+        })
+    }
 }
 
 /// The file to which a run is written. This process has that of a journal for itself.
 #[derive(Drop)]
 pub(crate) struct RunFile<T> {
     rt: T,
-    alloc: Global,
     file: File,
-    // Without symbolic links, since another file gets this name.
-    path: String,
-    // The path of a shorter journal, until it has the name of this one.
-    shorter_path: String,
-    // The path that this journal has once it has failed.
-    failed_path: String,
+    paths: Paths,
     // A record, or a device, isn't watched, and keeps its name.
     is_watched: bool,
     is_synced: bool,
@@ -57,9 +81,19 @@ pub(crate) struct RunFile<T> {
 }
 
 impl<T: Threads + Host> RunFile<T> {
+    /// From now on a thread makes a long journal shorter, unless the system has no more threads.
+    /// Neither a record nor a device is made shorter.
+    pub(crate) fn start_shortening(&mut self, alloc: Global) {
+        if self.is_watched {
+            self.shortening = Shortening::start(&self.rt, alloc).ok();
+        }
+    }
+}
+
+impl<T: Journals> RunFile<T> {
     /// Opens the journal with this path, or a new one. None if another process has it. What a
-    /// process that died has left of a shorter one is removed. If it isn't a regular file, or the
-    /// system has no more threads, it isn't made shorter. If one that failed is left, this is said.
+    /// process that died has left of a shorter one is removed. If one that failed is left, this is
+    /// said.
     ///
     /// # Errors
     ///
@@ -74,42 +108,28 @@ impl<T: Threads + Host> RunFile<T> {
             return Ok(None);
         }
         let metadata = file.metadata()?;
-        let is_regular = metadata.is_file();
-        let path = rt.canonicalize(alloc, words.path)?.into_string();
         let journal = RunFile {
             rt: *rt,
-            alloc,
             file,
-            shorter_path: format!(in alloc; "{path}.being-compacted")?,
-            failed_path: format!(in alloc; "{path}.failed")?,
-            path,
-            is_watched: is_regular,
+            paths: Paths::of(rt, alloc, words.path)?,
+            is_watched: metadata.is_file(),
             is_synced: words.is_synced,
             may_fail: words.may_fail,
             len: metadata.len(),
             limit: LONG,
-            shortening: if is_regular && words.may_shorten {
-                Shortening::start(rt, alloc).ok()
-            } else {
-                None
-            },
+            shortening: None,
         };
         journal.remove_shorter();
         journal.tell_failed();
         Ok(Some(journal))
     }
-}
 
-impl<T: Journals> RunFile<T> {
     /// A record in this file.
     pub(crate) fn record(rt: &T, alloc: Global, file: File) -> RunFile<T> {
         RunFile {
             rt: *rt,
-            alloc,
             file,
-            path: String::new(alloc),
-            shorter_path: String::new(alloc),
-            failed_path: String::new(alloc),
+            paths: Paths::none(alloc),
             is_watched: false,
             is_synced: false,
             may_fail: false,
@@ -121,14 +141,14 @@ impl<T: Journals> RunFile<T> {
 
     // Removes what was written of a shorter journal.
     fn remove_shorter(&self) {
-        let _ = fs::remove_file(&self.rt, self.shorter_path.as_str());
+        let _ = self.rt.remove(self.paths.shorter.as_str());
     }
 
     // Says that this journal has failed before, if that one is still there.
     fn tell_failed(&self) {
-        if let Ok(true) = fs::exists(&self.rt, self.failed_path.as_str()) {
-            let path = &self.path;
-            let failed = &self.failed_path;
+        if self.rt.metadata(self.paths.failed.as_str()).is_ok() {
+            let path = &self.paths.own;
+            let failed = &self.paths.failed;
             let _ = eprintln!(self.rt;
                 "ua: --journal {path}: {failed} lacks rounds, and isn't resumed"
             );
@@ -169,7 +189,7 @@ impl<T: Journals> RunFile<T> {
     fn new_shorter(&self) -> io::Result<Shorter> {
         self.check_place()?;
         Ok(Shorter {
-            readers: Readers::open(&self.rt, &self.path, self.len)?,
+            readers: Readers::open(&self.rt, &self.paths.own, self.len)?,
             file: self.new_file()?,
             front: self.len,
             compact: 0,
@@ -179,7 +199,7 @@ impl<T: Journals> RunFile<T> {
 
     // The file of the shorter journal. It can be read by those alone who can read the journal.
     fn new_file(&self) -> io::Result<File> {
-        let path = self.shorter_path.as_str();
+        let path = self.paths.shorter.as_str();
         self.remove_shorter();
         let file = open(&self.rt, path, Access::AppendNew)?;
         if !has_alone(&self.rt, &file, path) {
@@ -191,7 +211,7 @@ impl<T: Journals> RunFile<T> {
 
     // An error if somebody has moved or removed the journal.
     fn check_place(&self) -> io::Result<()> {
-        if has_alone(&self.rt, &self.file, self.path.as_str()) {
+        if has_alone(&self.rt, &self.file, self.paths.own.as_str()) {
             Ok(())
         } else {
             Err(io::Error::from(ErrorKind::NotFound))
@@ -221,7 +241,7 @@ impl<T: Journals> RunFile<T> {
 
     // Says why the journal isn't made shorter, and removes what there is of a shorter one.
     fn stay_long(&self, why: &io::Error) {
-        let path = &self.path;
+        let path = &self.paths.own;
         let _ = eprintln!(self.rt; "ua: --journal {path}: not made shorter: {why}");
         self.remove_shorter();
     }
@@ -232,21 +252,17 @@ impl<T: Journals> RunFile<T> {
         if !end? {
             return Ok(false);
         }
-        self.file.seek(SeekFrom::Start(shorter.front))?;
-        let copied = io::copy(&mut self.file, &mut shorter.file)?;
-        if shorter.front.checked_add(copied) != Some(self.len) {
-            return Err(io::Error::from(ErrorKind::UnexpectedEof));
-        }
-        shorter.file.sync_data()?;
+        shorter.append_behind(&mut self.file, self.len)?;
         self.check_place()?;
-        fs::rename(&self.rt, self.shorter_path.as_str(), self.path.as_str())?;
+        self.rt
+            .rename(self.paths.shorter.as_str(), self.paths.own.as_str())?;
         Ok(true)
     }
 
     // The name is that of the new file after a power cut, too.
     fn sync_name(&self) -> io::Result<()> {
         if self.is_synced {
-            File::open(&self.rt, folder_of(&self.path))?.sync_all()?;
+            open(&self.rt, folder_of(&self.paths.own), Access::Read)?.sync_all()?;
         }
         Ok(())
     }
@@ -269,7 +285,7 @@ impl<T: Journals> RunFile<T> {
             return true;
         }
         match self.file.metadata() {
-            Ok(own) => own.len() == self.len && is_at(&self.rt, &own, self.path.as_str()),
+            Ok(own) => own.len() == self.len && is_at(&self.rt, &own, self.paths.own.as_str()),
             Err(_) => false,
         }
     }
@@ -309,8 +325,8 @@ impl<T: Journals> RunFile<T> {
 
     // Takes its name from the journal, and says so.
     fn set_aside(&self) {
-        let path = &self.path;
-        let failed = &self.failed_path;
+        let path = &self.paths.own;
+        let failed = &self.paths.failed;
         let _ = match self.rename() {
             Ok(()) => eprintln!(self.rt; "ua: --journal {path}: it lacks rounds: now {failed}"),
             Err(error) => eprintln!(self.rt;
@@ -322,14 +338,14 @@ impl<T: Journals> RunFile<T> {
     // Gives the journal the name of one that failed, or the file that has its name now, if no
     // other process has that.
     fn rename(&self) -> io::Result<()> {
-        let path = self.path.as_str();
+        let path = self.paths.own.as_str();
         if self.check_place().is_err() {
             let other = open(&self.rt, path, Access::Read)?;
             if !has_alone(&self.rt, &other, path) {
                 return Err(io::Error::from(ErrorKind::WouldBlock));
             }
         }
-        fs::rename(&self.rt, path, self.failed_path.as_str())?;
+        self.rt.rename(path, self.paths.failed.as_str())?;
         self.sync_name()
     }
 }

@@ -2,15 +2,14 @@
 
 ghost use denote.Param.Send.{IsSync};
 
-use crate::host::{Access, Journals, open};
+use crate::host::{Access, Host, Journals, open};
 use rtrb::{Consumer, Producer, RingBuffer};
 use sip_message::Spread;
 use sip_stream::{StreamFault, compact};
 use sip_udp::Bell;
 use std::alloc::Global;
 use std::fs::File;
-use std::io::{self, ErrorKind, Read, Take, Write};
-use std::net::Net;
+use std::io::{self, ErrorKind, Read, Seek, SeekFrom, Take, Write};
 use std::sync::Arc;
 use std::thread::{self, Threads};
 use std::time::Duration;
@@ -98,6 +97,20 @@ impl Shorter {
         self.len = self.compact.saturating_add(behind);
         Ok(true)
     }
+
+    /// Writes what stands behind the front of the journal, which has so many bytes.
+    ///
+    /// # Errors
+    ///
+    /// The system's own error; `UnexpectedEof` if the journal has another length.
+    pub(crate) fn append_behind(&mut self, journal: &mut File, len: u64) -> io::Result<()> {
+        journal.seek(SeekFrom::Start(self.front))?;
+        let copied = io::copy(journal, &mut self.file)?;
+        if self.front.checked_add(copied) != Some(len) {
+            return Err(io::Error::from(ErrorKind::UnexpectedEof));
+        }
+        self.file.sync_data()
+    }
 }
 
 /// What comes of a shorter journal: whether there is one, or why it can't be made.
@@ -118,11 +131,8 @@ impl Shortening {
     /// # Errors
     ///
     /// `OutOfMemory`, or the system has no more threads or sockets.
-    pub(crate) fn start<T: Threads + Net + Copy + Send + Sync + 'static>(
-        rt: &T,
-        alloc: Global,
-    ) -> io::Result<Shortening> {
-        let Ok(bell) = Arc::new(alloc, Bell::new(rt)?) else {
+    pub(crate) fn start<T: Threads + Host>(rt: &T, alloc: Global) -> io::Result<Shortening> {
+        let Ok(bell) = Arc::new(alloc, rt.bell()?) else {
             return Err(io::Error::from(ErrorKind::OutOfMemory));
         };
         let ear = bell.clone()?;

@@ -4,7 +4,7 @@ ghost use Rattle.std.specs.Prelude.{◌≡◌, ◌≢◌, ℕ, MatchResult};
 ghost use Rattle.std.specs.IoError.{error_kind};
 ghost use Rattle.std.specs.declared.io.ErrorKind.TheVariants as io_kind;
 
-use crate::failure::{Cause, TalkFault};
+use crate::failure::{TalkFault, ToldCause};
 use clap::Error;
 use clap::error::ErrorKind;
 use sip_files::{EventsFault, LinesFault, ReplayFault};
@@ -108,7 +108,7 @@ impl Fault for TalkFault {
 /// about its cause. Gives the status of the program.
 pub(crate) fn finish<F: Fault, E: Write>(
     end: Result<(), F>,
-    cause: Option<Cause>,
+    cause: Option<ToldCause>,
     errors: &mut E,
 ) -> u8
     ensures { MatchResult end (λ _. result ≡ 0) (λ fault. result ≡ F.status_of fault) }

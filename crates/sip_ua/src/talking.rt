@@ -2,8 +2,8 @@
 
 use crate::address::address_of;
 use crate::compacting::compact_by;
-use crate::failure::{Cause, Failure, TalkFault};
-use crate::host::{Access, Host, open};
+use crate::failure::{Cause, Failure, TalkFault, ToldCause};
+use crate::host::{Access, Host, Journals, open};
 use crate::journalled_call::check_call;
 use crate::options::{division, number_of, text_of};
 use crate::plan::{Plan, plan_of};
@@ -20,13 +20,38 @@ use sip_udp::{
 };
 use std::alloc::Global;
 use std::io::{self, Write};
-use std::net::{Ipv4Addr, Net, UdpSocket};
+use std::net::{Ipv4Addr, Net, SocketAddrV4, UdpSocket};
 use std::random::RandomSource;
+use std::rt::Files;
+use std::sync::Arc;
 use std::thread::Threads;
+use std::time::Clock;
+
+/// Where a run begins, and to what it is written.
+#[derive(Drop)]
+struct Run<T> {
+    config: Config,
+    record: Option<RunFile<T>>,
+    // What there is of a journal, if the record is one.
+    past: Option<Past>,
+    keeping: Keeping,
+}
+
+impl<T> Run<T> {
+    // A run without a past.
+    fn of(config: Config, record: Option<RunFile<T>>) -> Run<T> {
+        Run {
+            config,
+            record,
+            past: None,
+            keeping: Keeping::MayFail,
+        }
+    }
+}
 
 /// Listens, calls, does what a pipe says, or compacts a journal, as the words ask for. Gives the
 /// status of the end.
-pub(crate) fn talk_by<T: Threads + Host, E: Write>(
+pub(crate) fn talk_by<T: Threads + Host + Clock + Files + Net, E: Write>(
     rt: &T,
     alloc: Global,
     command: &str,
@@ -46,17 +71,27 @@ pub(crate) fn talk_by<T: Threads + Host, E: Write>(
     };
     match end {
         Ok(()) => SUCCESS,
-        Err(Failure { fault, cause }) => finish(Err(fault), cause, errors),
+        Err(Failure { fault, cause }) => finish(Err(fault), told(cause, options), errors),
     }
 }
 
-fn talk<'a, T: Threads + Host, E: Write>(
+// The cause with the word of its option.
+fn told<'a>(cause: Option<Cause>, options: &ArgMatches<'a>) -> Option<ToldCause<'a>> {
+    let cause = cause?;
+    let word = match cause.option() {
+        Some(option) => text_of(options, option),
+        None => "",
+    };
+    Some(ToldCause { cause, word })
+}
+
+fn talk<T: Threads + Host + Clock + Files + Net, E: Write>(
     rt: &T,
     alloc: Global,
     command: &str,
-    options: &ArgMatches<'a>,
+    options: &ArgMatches,
     errors: &mut E,
-) -> Result<(), Failure<'a>> {
+) -> Result<(), Failure> {
     let plan = plan_of(rt, alloc, command, options)?;
     let endpoint = endpoint_of(rt, alloc, &plan, options)?;
     let others = endpoint.division.agents - 1;
@@ -73,11 +108,11 @@ fn talk<'a, T: Threads + Host, E: Write>(
 }
 
 // How a command ended, by its turns and by what became of its notices. Tells how many were lost.
-fn ended<'a, E: Write>(
+fn ended<E: Write>(
     end: Result<(), UaFault>,
     written: Written,
     errors: &mut E,
-) -> Result<(), Failure<'a>> {
+) -> Result<(), Failure> {
     let Written { lost, error } = written;
     if lost > 0 {
         let _ = writeln!(
@@ -101,62 +136,99 @@ fn ended<'a, E: Write>(
 
 // The endpoint for this plan. Where the port of its address is 0, it is at the one that the socket
 // got.
-fn endpoint_of<'a, T: Threads + Host>(
+fn endpoint_of<T: Threads + Host>(
     rt: &T,
     alloc: Global,
     plan: &Plan,
-    options: &ArgMatches<'a>,
-) -> Result<Endpoint<RunFile<T>>, Failure<'a>> {
-    let word = text_of(options, "local");
-    let local = address_of(alloc, "--local", word)?;
-    let mut seed = [0; 32];
-    if let Err(error) = rt.fill_bytes(&mut seed) {
-        return Err(Failure::of_system(UaFault::Input, "random bytes", error));
-    }
-    let mut endpoint = match socket_at(rt, local) {
-        Ok((socket, local)) => endpoint_at(socket, local, seed, plan, options),
-        Err(error) => return Err(Failure::of_system(UaFault::Socket, word, error)),
+    options: &ArgMatches,
+) -> Result<Endpoint<RunFile<T>>, Failure> {
+    let local = address_of(alloc, "local", text_of(options, "local"))?;
+    let seed = seed_of(rt)?;
+    let (socket, local) = socket_at(rt, local)?;
+    let config = Config {
+        local,
+        seed,
+        first: 0,
     };
-    open_run(rt, alloc, plan, options, &mut endpoint)?;
-    // The end of a terminal doesn't end the turns.
-    if !matches!(plan, Plan::Agent(_)) && !rt.is_on_terminal() {
-        endpoint.input = Some(InputEnd::watch(rt, alloc, rt.commands())?);
+    let mut run = run_of(rt, alloc, plan, options, config)?;
+    // A call begins in the first round of its journal. Without that round it would be made again.
+    if let Some(file) = &mut run.record
+        && !matches!(plan, Plan::Call(_))
+    {
+        file.start_shortening(alloc);
     }
-    Ok(endpoint)
+    let input = input_of(rt, alloc, plan)?;
+    Ok(endpoint_at(socket, run, input, plan, options))
+}
+
+fn seed_of<R: RandomSource>(rt: &R) -> Result<[u8; 32], Failure> {
+    let mut seed = [0; 32];
+    match rt.fill_bytes(&mut seed) {
+        Ok(()) => Ok(seed),
+        Err(error) => Err(Failure::of_system(UaFault::Input, "random bytes", error)),
+    }
 }
 
 // A socket at this address, and the address that it got.
-fn socket_at<N: Net>(rt: &N, local: Addr) -> io::Result<(UdpSocket, Addr)> {
+fn socket_at<T: Host>(rt: &T, local: Addr) -> Result<(UdpSocket, Addr), Failure> {
     let ip = local.ip;
-    let socket = UdpSocket::bind(rt, (Ipv4Addr::from_octets(ip), local.port))?;
-    ask_for_room(&socket);
-    let port = socket.local_addr()?.port();
-    Ok((socket, Addr { ip, port }))
+    match bound(rt, local) {
+        Ok((socket, port)) => Ok((socket, Addr { ip, port })),
+        Err(error) => Err(Failure {
+            fault: TalkFault::Ua(UaFault::Socket),
+            cause: Some(Cause::Local(error)),
+        }),
+    }
 }
 
-// An endpoint at this socket, without a record.
+fn bound<T: Host>(rt: &T, local: Addr) -> io::Result<(UdpSocket, u16)> {
+    let address = SocketAddrV4::new(Ipv4Addr::from_octets(local.ip), local.port);
+    let socket = rt.bind(address)?;
+    ask_for_room(&socket);
+    let port = socket.local_addr()?.port();
+    Ok((socket, port))
+}
+
+// The input whose end ends the turns. The end of a terminal doesn't.
+fn input_of<T: Threads + Host>(
+    rt: &T,
+    alloc: Global,
+    plan: &Plan,
+) -> Result<Option<Arc<InputEnd>>, Failure> {
+    if matches!(plan, Plan::Agent(_)) || rt.is_on_terminal() {
+        return Ok(None);
+    }
+    match InputEnd::watch(rt, alloc, rt.commands()) {
+        Ok(input) => Ok(Some(input)),
+        Err(fault) => Err(Failure::from(fault)),
+    }
+}
+
+// An endpoint at this socket.
 fn endpoint_at<T>(
     socket: UdpSocket,
-    local: Addr,
-    seed: [u8; 32],
+    run: Run<T>,
+    input: Option<Arc<InputEnd>>,
     plan: &Plan,
     options: &ArgMatches,
 ) -> Endpoint<RunFile<T>> {
+    let Run {
+        config,
+        record,
+        past,
+        keeping,
+    } = run;
     let turns = match options.get_one::<u32>("turns") {
         Some(turns) => u64::from(turns),
         None => u64::MAX,
     };
     Endpoint {
         socket,
-        config: Config {
-            local,
-            seed,
-            first: 0,
-        },
+        config,
         division: division(options),
-        record: None,
-        keeping: Keeping::MayFail,
-        past: None,
+        record,
+        keeping,
+        past,
         // With headers, the pipe and the record have the lines of a session file.
         kind: if options.get_flag("headers") {
             FileKind::Session
@@ -179,115 +251,106 @@ fn endpoint_at<T>(
             largest: number_of(options, "largest"),
             vias: number_of(options, "vias"),
         },
-        input: None,
+        input,
     }
 }
 
 // Opens the file to which the run is written, if one is asked for. From a journal the run goes on.
-fn open_run<'a, T: Threads + Host>(
+fn run_of<T: Journals>(
     rt: &T,
     alloc: Global,
     plan: &Plan,
-    options: &ArgMatches<'a>,
-    endpoint: &mut Endpoint<RunFile<T>>,
-) -> Result<(), Failure<'a>> {
+    options: &ArgMatches,
+    config: Config,
+) -> Result<Run<T>, Failure> {
     if options.contains_id("journal") {
-        return open_journal(rt, alloc, plan, options, endpoint);
+        return journal_of(rt, alloc, plan, options, config);
     }
     let Some(path) = options.get_str("record") else {
-        return Ok(());
+        return Ok(Run::of(config, None));
     };
     match open(rt, path, Access::Overwrite) {
-        Ok(file) => {
-            endpoint.record = Some(RunFile::record(rt, alloc, file));
-            Ok(())
-        }
-        Err(error) => Err(Failure::of_file(UaFault::Output, "--record", path, error)),
+        Ok(file) => Ok(Run::of(config, Some(RunFile::record(rt, alloc, file)))),
+        Err(error) => Err(Failure::of_file(UaFault::Output, "record", error)),
     }
 }
 
 // Opens the journal. If it may fail, there may be none.
-fn open_journal<'a, T: Threads + Host>(
+fn journal_of<T: Journals>(
     rt: &T,
     alloc: Global,
     plan: &Plan,
-    options: &ArgMatches<'a>,
-    endpoint: &mut Endpoint<RunFile<T>>,
-) -> Result<(), Failure<'a>> {
+    options: &ArgMatches,
+    config: Config,
+) -> Result<Run<T>, Failure> {
     let path = text_of(options, "journal");
     let words = JournalWords {
         path,
         is_synced: options.get_flag("sync"),
         may_fail: options.get_flag("journal-may-fail"),
-        // A call begins in the first round of its journal. Without that round it would be made
-        // again.
-        may_shorten: !matches!(plan, Plan::Call(_)),
     };
     match RunFile::journal(rt, alloc, words) {
-        Ok(Some(mut file)) => {
-            let mut past = Past::new(alloc);
-            endpoint.config = config_in(
-                rt,
-                alloc,
-                &mut file,
-                &mut past,
-                plan,
-                options,
-                endpoint.config,
-            )?;
-            endpoint.record = Some(file);
-            endpoint.past = Some(past);
-            endpoint.keeping = if words.may_fail {
-                Keeping::MayFail
-            } else {
-                Keeping::Needed
-            };
-            Ok(())
-        }
-        Ok(None) => Err(Failure::of_word("--journal", path, "another process has it")),
+        Ok(Some(file)) => from_journal(rt, alloc, words, file, plan, config),
+        Ok(None) => Err(Failure::of_word("journal", "another process has it")),
         Err(error) if words.may_fail => {
             let _ = eprintln!(rt; "ua: --journal {path}: {error}: there is no journal");
-            Ok(())
+            Ok(Run::of(config, None))
         }
-        Err(error) => Err(Failure::of_file(UaFault::Journal, "--journal", path, error)),
+        Err(error) => Err(Failure::of_file(UaFault::Journal, "journal", error)),
     }
 }
 
-// The configuration that the journal's head says. A new journal has none yet. One that lacks the
-// first round of its call is refused.
-fn config_in<'a, T: Threads + Host>(
+// A run that goes on from this journal.
+fn from_journal<T: Journals>(
     rt: &T,
     alloc: Global,
-    file: &mut RunFile<T>,
-    past: &mut Past,
+    words: JournalWords<'_>,
+    mut file: RunFile<T>,
     plan: &Plan,
-    options: &ArgMatches<'a>,
     config: Config,
-) -> Result<Config, Failure<'a>> {
-    let path = text_of(options, "journal");
-    let kept = match past.head(file) {
-        Ok(Some(kept)) => kept,
-        Ok(None) => return Ok(config),
-        Err(fault) => {
-            return Err(Failure {
-                fault: TalkFault::Ua(fault),
-                cause: Some(Cause::Word {
-                    option: "--journal",
-                    word: path,
-                    wanted: "not read",
-                }),
-            });
-        }
+) -> Result<Run<T>, Failure> {
+    let mut past = Past::new(alloc);
+    let kept = match past.head(&mut file) {
+        Ok(Some(kept)) => check_head(rt, alloc, words.path, plan, config, kept),
+        Ok(None) => Ok(config),
+        Err(fault) => Err(Failure {
+            fault: TalkFault::Ua(fault),
+            cause: Some(Cause::Word {
+                option: "journal",
+                wanted: "not read",
+            }),
+        }),
     };
+    Ok(Run {
+        config: kept?,
+        record: Some(file),
+        past: Some(past),
+        keeping: if words.may_fail {
+            Keeping::MayFail
+        } else {
+            Keeping::Needed
+        },
+    })
+}
+
+// The configuration that the journal's head says. A journal that lacks the first round of its call
+// is refused.
+fn check_head<T: Journals>(
+    rt: &T,
+    alloc: Global,
+    path: &str,
+    plan: &Plan,
+    config: Config,
+    kept: Config,
+) -> Result<Config, Failure> {
     if kept.local != config.local {
-        let wanted = "not the address of the journal";
-        return Err(Failure::of_word("--local", text_of(options, "local"), wanted));
+        return Err(Failure::of_word("local", "not the address of the journal"));
     }
     if let Plan::Call(plan) = plan {
         if kept.first > 0 {
-            return Err(Failure::of_word("--journal", path, "its call is over"));
+            return Err(Failure::of_word("journal", "its call is over"));
         }
-        check_call(rt, alloc, path, plan, options)?;
+        check_call(rt, alloc, path, plan)?;
     }
     Ok(kept)
 }
