@@ -1,5 +1,5 @@
 -- Items, each given to its key, one after another: what was dealt, and what is left.
-use Rattle.std.proofs.Common.{◌≡◌, ℕ, List, [], ◌∷◌, ◌++◌, map, ◌∙◌, ap, append_assoc}
+use Rattle.std.proofs.Common.{◌≡◌, ℕ, List, [], ◌∷◌, ◌++◌, map, ◌∙◌, ap, append_assoc, subst}
 use Rattle.std.specs.Prelude.{Option, cond}
 use Rattle.std.specs.declared.cmp.Ordering.{Ordering}
 use Rattle.std.specs.BTreeMap.{is_at}
@@ -17,6 +17,16 @@ pub record ItemsLeft {K S I O : Type 0} (cmp : K → K → Ordering) (machine : 
   pub armed : AreDues cmp due states dues
   pub said : told ++ map by_place (told_items cmp machine states rest)
       ≡ map by_place (told_items cmp machine old all)
+
+-- the same where it is known that no item is left
+pub no_item_left : {K S I O : Type 0} {cmp : K → K → Ordering} {machine : Machine K S I O}
+    {due : S → Option ℕ} {old : K → Option S} {all rest : List (Item K I)} {states : K → Option S}
+    {dues : List (ℕ × K)} {told : List (ℕ × List O)}
+    → ItemsLeft cmp machine due old all rest states dues told → rest ≡ []
+    → ItemsLeft cmp machine due old all [] states dues told
+no_item_left {cmp = cmp} {machine = machine} {due = due} {old = old} {all = all}
+    {states = states} {dues = dues} {told = told} left none =
+    subst (λ items. ItemsLeft cmp machine due old all items states dues told) none left
 
 module _ {K S I O : Type 0} {cmp : K → K → Ordering} (machine : Machine K S I O)
     (due : S → Option ℕ) where

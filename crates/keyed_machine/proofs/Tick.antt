@@ -1,5 +1,5 @@
 -- A tick of the keys that are due: the outputs so far, and the keys that are left.
-use Rattle.std.proofs.Common.{◌≡◌, ℕ, Bool, true, false, cond, ◌||◌, List, [], ◌∷◌, ◌++◌, map, refl, sym, ◌∙◌, ap, append_assoc, arith}
+use Rattle.std.proofs.Common.{◌≡◌, ℕ, Bool, true, false, cond, ◌||◌, List, [], ◌∷◌, ◌++◌, map, refl, sym, ◌∙◌, ap, append_assoc, arith, subst}
 use Rattle.std.specs.Prelude.{Option, None, Some, IsSome, filter}
 use Rattle.std.specs.declared.cmp.Ordering.{Ordering}
 use Rattle.std.specs.declared.vec.Vec.{Vec}
@@ -30,6 +30,16 @@ pub record TickLeft {K S I O : Type 0} (cmp : K → K → Ordering) (machine : M
   pub armed : IsIndexOf cmp
       (λ q. cond (list_any (is_at (cmp q)) rest) None (due_of due (states q))) dues
   pub said : told ++ told_ticks machine old input rest ≡ told_ticks machine old input all
+
+-- the same where it is known that no key is left
+pub none_left : {K S I O : Type 0} {cmp : K → K → Ordering} {machine : Machine K S I O}
+    {due : S → Option ℕ} {input : I} {old : K → Option S} {all rest : List K}
+    {states : K → Option S} {dues : List (ℕ × K)} {told : List (K × List O)}
+    → TickLeft cmp machine due input old all rest states dues told → rest ≡ []
+    → TickLeft cmp machine due input old all [] states dues told
+none_left {cmp = cmp} {machine = machine} {due = due} {input = input} {old = old} {all = all}
+    {states = states} {dues = dues} {told = told} left none =
+    subst (λ ks. TickLeft cmp machine due input old all ks states dues told) none left
 
 -- a key that says something to a tick has a state
 pub has_state : {K S I O : Type 0} (machine : Machine K S I O) (due : S → Option ℕ) (now : ℕ)

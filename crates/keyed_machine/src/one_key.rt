@@ -152,12 +152,7 @@ pub(crate) fn tick_key<M: StateMachine>(
         return Ok(Vec::new(alloc));
     };
     let (after, outputs) = machine.tick(alloc, key, state, now)?;
-    if let Some(after) = after {
-        if let Some(due) = machine.due_of(&after) {
-            dues.arm(copy_of::<M>(key)?, due)?;
-        }
-        hold(states, held, after)?;
-    }
+    put_back(machine, states, dues, held, None, after)?;
     Ok(outputs)
 }
 

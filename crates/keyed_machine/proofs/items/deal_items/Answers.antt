@@ -1,11 +1,11 @@
 -- `deal_items`: each turn of the loop gives one more item to its key.
-use Rattle.std.proofs.Common.{◌∷◌, subst}
-use Rattle.std.proofs.lemmas.List.{map-append}
+use Rattle.std.proofs.Common.{◌∷◌, subst, sym, ap, ◌∙◌, append-nil}
+use Rattle.std.proofs.lemmas.List.{map-append, nil_from_length}
 use Rattle.std.specs.Vec.Iter.{into_iter_items}
 use Rattle.keyed_machine.specs.Phase.{timed_item, timed_items}
 use Rattle.keyed_machine.specs.Groups.{groups}
 use Rattle.keyed_machine.specs.Table.{state_in}
-use Rattle.keyed_machine.proofs.ItemsLeft.{ItemsLeft, items_left_more}
+use Rattle.keyed_machine.proofs.ItemsLeft.{ItemsLeft, items_left_more, no_item_left}
 use Rattle.keyed_machine.proofs.items.deal_items.Goals as goal
 
 pub loop-place-preserved : goal.loop-place-preserved
@@ -31,3 +31,27 @@ loop-place-preserved g c =
     (groups c.loop-place.told.items) c.in_ok-outputs.outputs.items left
     c.in_ok-outputs.ensures.states c.in_ok-outputs.ensures.armed c.in_ok-outputs.ensures.added in
     rw (c.in_ok-push.ensures.items, map-append) more
+
+pub returns-clause-states : goal.returns-clause-states
+returns-clause-states g c =
+    let left = c.loop-place.place-iterator in
+    let done = no_item_left c.loop-place.invariant (ap (timed_items c.args.now)
+    (nil_from_length (into_iter_items left)
+    (sym left.rest.ok.0 ∙ c.in-None.ensures.steps.0))) in
+    done.stepped_so_far
+
+pub returns-clause-armed : goal.returns-clause-armed
+returns-clause-armed g c =
+    let left = c.loop-place.place-iterator in
+    let done = no_item_left c.loop-place.invariant (ap (timed_items c.args.now)
+    (nil_from_length (into_iter_items left)
+    (sym left.rest.ok.0 ∙ c.in-None.ensures.steps.0))) in
+    done.armed
+
+pub returns-clause-told : goal.returns-clause-told
+returns-clause-told g c =
+    let left = c.loop-place.place-iterator in
+    let done = no_item_left c.loop-place.invariant (ap (timed_items c.args.now)
+    (nil_from_length (into_iter_items left)
+    (sym left.rest.ok.0 ∙ c.in-None.ensures.steps.0))) in
+    sym (append-nil (groups c.loop-place.told.items)) ∙ done.said

@@ -1,5 +1,5 @@
 -- `tick_due` gives the outputs that all held keys have to the tick.
-use Rattle.std.proofs.Common.{◌≡◌, [], ◌∷◌, subst, sym, ap, ◌∙◌, append-nil}
+use Rattle.std.proofs.Common.{◌≡◌, ◌∷◌, subst, refl, sym, ap, ◌∙◌, append-nil}
 use Rattle.std.proofs.lemmas.List.{nil_from_length}
 use Rattle.std.specs.BTreeMap.{is_at}
 use Rattle.std.specs.List.{list_any}
@@ -8,7 +8,7 @@ use Rattle.std.specs.Vec.Iter.{into_iter_items}
 use Rattle.keyed_machine.specs.Machine.{due_of, tick_at}
 use Rattle.keyed_machine.specs.Groups.{groups}
 use Rattle.keyed_machine.specs.Table.{state_in}
-use Rattle.keyed_machine.proofs.Tick.{TickLeft, tick_left_at_first, tick_left_more, told_by_due}
+use Rattle.keyed_machine.proofs.Tick.{TickLeft, none_left, tick_left_at_first, tick_left_more, told_by_due}
 use Rattle.keyed_machine.proofs.ticks.tick_due.Goals as goal
 
 pub loop-key-init : goal.loop-key-init
@@ -54,6 +54,20 @@ loop-key-preserved g c =
     c.in_ok-outputs.ensures.added in
     rw c.in_ok-tell.ensures more
 
+pub returns-clause-states : goal.returns-clause-states
+returns-clause-states g c =
+    let left = c.loop-key.key-iterator in
+    let done = none_left c.loop-key.invariant (nil_from_length (into_iter_items left)
+    (sym left.rest.ok.0 ∙ c.in-None.ensures.steps.0)) in
+    λ q. done.done q refl
+
+pub returns-clause-armed : goal.returns-clause-armed
+returns-clause-armed g c =
+    let left = c.loop-key.key-iterator in
+    let done = none_left c.loop-key.invariant (nil_from_length (into_iter_items left)
+    (sym left.rest.ok.0 ∙ c.in-None.ensures.steps.0)) in
+    done.armed
+
 pub returns-clause-told : goal.returns-clause-told
 returns-clause-told g c =
     let cmp = g.M.Key.Ord.cmp in
@@ -65,15 +79,8 @@ returns-clause-told g c =
     let gives : all ≡ c.in_ok-due.due.items =
     c.into_iter-key-iterator.ensures.into_iter_gives.0 in
     let left = c.loop-key.key-iterator in
-    let nothing_left : into_iter_items left ≡ [] =
-    nil_from_length (into_iter_items left) (sym left.rest.ok.0 ∙ c.in-None.ensures.steps.0) in
-    let done : TickLeft cmp machine due input old all []
-    (state_in cmp c.loop-key.states.entries) c.loop-key.dues
-    (groups c.loop-key.told.items) =
-    subst (λ ks. TickLeft cmp machine due input old all ks
-    (state_in cmp c.loop-key.states.entries) c.loop-key.dues (groups c.loop-key.told.items))
-    nothing_left
-    c.loop-key.invariant in
+    let done = none_left c.loop-key.invariant (nil_from_length (into_iter_items left)
+    (sym left.rest.ok.0 ∙ c.in-None.ensures.steps.0)) in
     λ keys covers.
     sym (append-nil (groups c.loop-key.told.items)) ∙ done.said
     ∙ told_by_due g.met.M.Key.Ord.total g.met.M.StateMachine.exact machine due input c.args.now
