@@ -93,3 +93,32 @@ returns-clause-holds g c = λ old_owner phases within holds.
     (λ key. subst (λ n. old_owner key < n) (sym (length-map c.args.shards.items held))
     (within key))
     holds
+
+pub transfer_shard-requires-clause-some : goal.transfer_shard-requires-clause-some
+transfer_shard-requires-clause-some g c =
+    omega (
+      arith,
+      c.loop-shard.invariant.0.count,
+      length-map c.loop-shard.moved.items g.S.KeyShard.held,
+      c.loop-shard.moved.ok,
+      c.args.others.ok,
+      c.requires.some,
+    )
+
+pub transfer_shard-requires-clause-most : goal.transfer_shard-requires-clause-most
+transfer_shard-requires-clause-most g c =
+    omega (
+      arith,
+      c.loop-shard.invariant.0.count,
+      length-map c.loop-shard.moved.items g.S.KeyShard.held,
+      c.loop-shard.moved.ok,
+      c.args.others.ok,
+      c.requires.most,
+    )
+
+pub returns-clause-count : goal.returns-clause-count
+returns-clause-count g c =
+    sym (length-map c.loop-shard.moved.items g.S.KeyShard.held) ∙ c.loop-shard.invariant.0.count
+
+pub returns-clause-machines : goal.returns-clause-machines
+returns-clause-machines g c = c.loop-shard.invariant.1

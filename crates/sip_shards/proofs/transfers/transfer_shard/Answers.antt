@@ -88,3 +88,51 @@ returns-clause-states g c = λ q.
     (sym (ap (λ entries. option_or (state_in cmp entries q)
     (held_by_owner cmp (owner c.len-count.result) moved q)) c.in-None.ensures.steps.0)
     ∙ c.loop-key.invariant.0.both q)
+
+pub index_mut-requires : goal.index_mut-requires
+index_mut-requires g c =
+    let count = c.len-count.result in
+    let shard_of = g.C.Cut.shard_of c.args.cut.now in
+    let name = g.S.Machine.Key.Named.name in
+    let owned : c.shard-owner.result ≡ owner_of shard_of name count c.in-Some-2.key =
+    c.shard-owner.ensures ∙ ap (λ bytes. shard_of bytes count) c.name.ensures in
+    let within = g.met.C.Cut.within c.args.cut.now (name c.in-Some-2.key) count
+    (omega (arith, c.requires.some, c.len-count.ensures)) in
+    omega (
+      arith,
+      owned,
+      within,
+      c.loop-key.invariant.0.count,
+      length-map c.loop-key.moved.items g.S.KeyShard.held,
+      c.loop-key.moved.ok,
+    )
+
+pub returns-in_default-put-clause-count : goal.returns-in_default-put-clause-count
+returns-in_default-put-clause-count g c =
+    omega (
+      arith,
+      c.loop-key.invariant.0.count,
+      length-map c.loop-key.moved.items g.S.KeyShard.held,
+      c.loop-key.moved.ok,
+      c.len-count.ensures,
+    )
+
+pub returns-clause-count : goal.returns-clause-count
+returns-clause-count g c =
+    omega (
+      arith,
+      c.loop-key.invariant.0.count,
+      length-map c.loop-key.moved.items g.S.KeyShard.held,
+      c.loop-key.moved.ok,
+      c.len-count.ensures,
+    )
+
+pub returns-clause-machines : goal.returns-clause-machines
+returns-clause-machines g c = c.loop-key.invariant.2
+
+pub returns-clause-owners : goal.returns-clause-owners
+returns-clause-owners g c =
+    let owner = owner_of (g.C.Cut.shard_of c.args.cut.now) g.S.Machine.Key.Named.name in
+    subst (λ n. AreOwners g.S.Machine.Key.Ord.cmp (owner n)
+    (map g.S.KeyShard.held c.loop-key.moved.items)) c.len-count.ensures
+    c.loop-key.invariant.0.owners

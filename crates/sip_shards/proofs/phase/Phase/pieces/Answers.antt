@@ -1,5 +1,6 @@
 -- `Phase::pieces`: each turn of the loop makes one more piece, of a shard and its part.
-use Rattle.std.proofs.Common.{◌≡◌, map, refl, sym, ap, subst, arith}
+use Rattle.std.proofs.Common.{◌≡◌, ◌++◌, [], length, map, refl, sym, ◌∙◌, ap, subst, append-nil, arith}
+use Rattle.std.proofs.lemmas.List.{length-map, nil_from_length}
 use Rattle.std.specs.Vec.Iter.{into_iter_items}
 use Rattle.sip_workers.specs.Ran.{IsNumbered}
 use Rattle.sip_workers.proofs.Gathers.{numbered_more}
@@ -20,3 +21,43 @@ loop-shard-preserved g c = (
       (numbered_more c.loop-shard.pieces.items _ c.loop-shard.invariant.1
       (omega (arith, c.len-number.ensures, c.loop-shard.pieces.ok))),
 )
+
+-- there are as many parts left as shards
+pub unreachable-unreachable : goal.unreachable-unreachable
+unreachable-unreachable g c =
+    let left = c.loop-shard.left in
+    let none : length (into_iter_items left) ≡ 0 =
+    sym left.rest.ok.0 ∙ c.in_default.ensures.cases.0 in
+    omega (
+      arith,
+      none,
+      length-map (into_iter_items left) (λ part. part.items),
+      c.loop-shard.invariant.0.even,
+      ap length c.in-Some.ensures.steps.0,
+    )
+
+pub returns-clause-numbered : goal.returns-clause-numbered
+returns-clause-numbered g c = c.loop-shard.invariant.1
+
+pub returns-clause-shared : goal.returns-clause-shared
+returns-clause-shared g c = c.loop-shard.invariant.0.shared
+
+pub returns-clause-shards : goal.returns-clause-shards
+returns-clause-shards g c =
+    let left = c.loop-shard.shard-iterator in
+    let made = map (λ piece. piece.job.shard) c.loop-shard.pieces.items in
+    let none : into_iter_items left ≡ [] =
+    nil_from_length (into_iter_items left) (sym left.rest.ok.0 ∙ c.in-None.ensures.steps.0) in
+    sym (append-nil made) ∙ ap (λ shards. made ++ shards) (sym none)
+    ∙ c.loop-shard.invariant.0.tables_are
+
+pub returns-clause-parts : goal.returns-clause-parts
+returns-clause-parts g c =
+    let left = c.loop-shard.shard-iterator in
+    let made = map (λ piece. piece.job.items.items) c.loop-shard.pieces.items in
+    let parts = map (λ part. part.items) (into_iter_items c.loop-shard.left) in
+    let none : parts ≡ [] =
+    nil_from_length parts
+    (c.loop-shard.invariant.0.even ∙ sym left.rest.ok.0 ∙ c.in-None.ensures.steps.0) in
+    sym (append-nil made) ∙ ap (λ parts. made ++ parts) (sym none)
+    ∙ c.loop-shard.invariant.0.parts_are
