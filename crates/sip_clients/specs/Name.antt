@@ -10,9 +10,8 @@ unfoldable pub hex : ℕ → ℕ → List ℕ
 hex zero number = []
 hex (suc count) number = hex count (number / 16) ++ hex_digit (number % 16) ∷ []
 
--- the last part of a name, a word of ChaCha20 (10 double rounds; rand_chacha, ChaCha), so that who
--- hasn't seen it has 32 bits to guess: the seed is the key, the round the stream, and each place has
--- 16 words
+-- the last part of a name, 32 bits to guess for who hasn't seen it: a word of ChaCha20 (10 double
+-- rounds), whose key is the seed and whose stream the round; each place has 16 words
 abbrev pub word_of_name : List ℕ → Id → ℕ → ℕ
 word_of_name seed id index = word_at 10 (key_of seed) id.round (16 * id.place + index)
 
@@ -21,8 +20,7 @@ abbrev pub name_of : List ℕ → Id → ℕ → List ℕ
 name_of seed id index =
     ((hex 16 id.round ++ hex 16 id.place) ++ hex 1 index) ++ hex 8 (word_of_name seed id index)
 
--- the tag that the agent gives itself where the command with this id sends a request outside of
--- dialogs: the made name of index 1
+-- the From tag of the request outside of dialogs that the command with this id sends
 abbrev pub opening_tag : List ℕ → Id → List ℕ
 opening_tag seed id = name_of seed id 1
 

@@ -17,13 +17,14 @@ use Rattle.sip_user.specs.declared.command.ProvisionalSupport.{ProvisionalSuppor
 use Rattle.sip_user.specs.declared.command.ProvisionalSupport.TheVariants as support
 use Rattle.sip_clients.specs.declared.event.Event.{Event}
 use Rattle.sip_clients.specs.declared.outside.TheConstants.{FIRST_CSEQ}
-use Rattle.sip_clients.specs.Event.{branch_of, from_tag_of}
+use Rattle.sip_clients.specs.Event.{branch_of}
+use Rattle.sip_clients.specs.Name.{opening_tag}
 
 -- the request of this method, without its routes and its content
 unfoldable pub bare_request : Event → List ℕ → List ℕ → List ℕ → List ℕ → List ℕ → Message
 bare_request event call_id method uri from to =
     let via = agent_via event.local (branch_of event) in
-    let from = party_of from (Some (from_tag_of event)) in
+    let from = party_of from (Some (opening_tag event.seed event.id)) in
     let cseq : CSeq = record { number = FIRST_CSEQ; method = method } in
     record (bare (Request uri) (via ∷ []) from (party_of to None) call_id cseq) {
       max_forwards = Some MAX_FORWARDS;

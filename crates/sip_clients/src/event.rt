@@ -3,7 +3,7 @@
 ghost use Rattle.std.specs.Prelude.{◌≡◌, ◌++◌, IfOk, codes};
 ghost use Rattle.seeded_hash.specs.HashSeed.{seed_of};
 ghost use Rattle.sip_clients.specs.Event as spec;
-ghost use Rattle.sip_clients.specs.Name.{name_of};
+ghost use Rattle.sip_clients.specs.Name.{name_of, opening_tag};
 
 use crate::name::{opening_tag, push_name};
 use seeded_hash::HashSeed;
@@ -52,7 +52,7 @@ impl Event {
 
     /// The From tag of the request that it makes (RFC 3261, section 19.3).
     pub(crate) fn from_tag(&self, alloc: Global) -> Result<Token, AllocError>
-        ensures { IfOk result (λ tag. tag ≡ spec.from_tag_of self.now) }
+        ensures { IfOk result (λ tag. tag ≡ opening_tag self.now.seed self.now.id) }
     {
         opening_tag(alloc, self.seed, self.id)
     }

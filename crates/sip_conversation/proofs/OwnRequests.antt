@@ -32,8 +32,8 @@ use Rattle.sip_held_dialogs.proofs.Each.{both}
 use Rattle.sip_user.specs.declared.command.ProvisionalSupport.{ProvisionalSupport}
 use Rattle.sip_user.specs.declared.command.ProvisionalSupport.TheVariants as support
 use Rattle.sip_served.proofs.Names.{option_100rel}
-use Rattle.sip_clients.specs.Event.{branch_of, from_tag_of}
-use Rattle.sip_clients.specs.Name.{name_of}
+use Rattle.sip_clients.specs.Event.{branch_of}
+use Rattle.sip_clients.specs.Name.{name_of, opening_tag}
 use Rattle.sip_clients.specs.Rules.Requests.{request_outside, with_100rel}
 use Rattle.sip_clients.specs.declared.event.Event.{Event}
 use Rattle.sip_clients.proofs.Hex.{branch_has_cookie, branch_is_token, name_is_token}
@@ -284,7 +284,7 @@ module _ (event : Event) (address : IsAddr event.local) where
         top = own_are_vias event.local (branch_of event) (made_branch event);
         vias = (via_keeps event.local address (branch_of event) (made_token event), tt);
         max_forwards = omega arith;
-        from = party_keeps from (Some (from_tag_of event))
+        from = party_keeps from (Some (opening_tag event.seed event.id))
             (record { uri_is = from_is; tag_is = name_is_token event.seed event.id 1 });
         to = party_keeps to None (record { uri_is = to_is; tag_is = tt });
         call_id = word;

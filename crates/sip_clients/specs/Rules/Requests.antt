@@ -58,7 +58,8 @@ use Rattle.sip_clients.specs.declared.client.RequestKind.TheVariants.{InitialInv
 use Rattle.sip_clients.specs.declared.event.Event.{Event}
 use Rattle.sip_clients.specs.declared.outside.TheConstants.{FIRST_CSEQ}
 use Rattle.sip_clients.specs.Client.{Clients, ClientTaken, Side, client_for}
-use Rattle.sip_clients.specs.Event.{branch_of, from_tag_of}
+use Rattle.sip_clients.specs.Event.{branch_of}
+use Rattle.sip_clients.specs.Name.{opening_tag}
 
 -- ---- client requests
 
@@ -95,7 +96,7 @@ abbrev pub request_outside : Event → List ℕ → List ℕ → List ℕ → Li
     → Message
 request_outside event call_id method uri from to routes =
     let via = agent_via event.local (branch_of event) in
-    let from = party_of from (Some (from_tag_of event)) in
+    let from = party_of from (Some (opening_tag event.seed event.id)) in
     let cseq : CSeq = record { number = FIRST_CSEQ; method = method } in
     record (bare (Request uri) (via ∷ []) from (party_of to None) call_id cseq) {
       max_forwards = Some MAX_FORWARDS;
