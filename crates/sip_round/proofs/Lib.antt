@@ -38,3 +38,4 @@ pub mod SaidInDialogs
 pub mod StartedOnce
 pub mod StartedRequests
 pub mod ByEvent
+pub mod Taken
