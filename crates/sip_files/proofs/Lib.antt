@@ -30,3 +30,6 @@ pub mod WrittenSessions
 mod OneEvent
 pub mod FirstRound
 pub mod HeadLines
+pub mod LowerTexts
+pub mod TypedTexts
+pub mod SessionFits

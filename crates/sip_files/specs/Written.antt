@@ -264,6 +264,19 @@ IsSessionCommand c = IsCommandLine SessionOne (bare c) × HaveHeaders c
 abbrev pub IsSessionRound : Round → Type 0
 IsSessionRound round = IsRoundOf IsSessionCommand round
 
+-- ---- what the types of a session's events don't say
+
+-- a status has at most three digits (RFC 3261, section 7.2)
+abbrev pub HasStatus : UserCommand → Type 0
+HasStatus (command.Respond c) = c.status ≤ 999
+HasStatus c = Unit {0}
+
+-- what a session wants of an event beside what its types say
+abbrev pub FitsSession : Event → Type 0
+FitsSession (Datagram from bytes) = Unit {0}
+FitsSession (Failed key) = Unit {0}
+FitsSession (Command c) = HasStatus c × IsTrue (contacts_fit (headers_of c) c)
+
 -- ---- an event, a command or a header by itself
 
 -- the event that a line says

@@ -10,8 +10,11 @@ ghost use Rattle.sip_round.specs.declared.round.Round.{Round};
 ghost use Rattle.sip_files.specs.EventFile.{IsOneLine, SpellsEvents, SpellsIn, SpellsSession, file_text};
 ghost use Rattle.sip_files.specs.Events.{AreAlike, SpellsLine};
 ghost use Rattle.sip_files.specs.Rounds.{SpellsRound, SpellsRounds};
-ghost use Rattle.sip_files.specs.Written.{IsConfig, IsRound, IsSessionRound, events_text, session_round_text, session_text};
+ghost use Rattle.sip_files.specs.Written.{FitsSession, IsConfig, IsEventOf, IsRound, IsSessionCommand, IsSessionRound, events_text, session_round_text, session_text};
 ghost use Rattle.std.specs.List.{AllByRecursion, starts_with};
+
+use crate::types::event_fits;
+use sip_round::Round as ARound;
 
 /// Two different texts have different words.
 pub fn one_text_of_a_word()
@@ -93,3 +96,15 @@ pub fn what_is_written_are_the_lines_of_a_round()
     ensures { (round : Round) → IsSessionRound round
         → SpellsRound (session_round_text round) round }
 {}
+
+/// A session may have a round whose events fit. The types of its parts say the rest: that each text
+/// is of bytes and keeps its rule, and that each number is small enough.
+#[tactic(auto, using(crate::proofs::SessionFits::each_one))]
+pub fn a_session_may_have_what_fits(round: &ARound)
+    ensures { AllByRecursion FitsSession round.now.events → IsSessionRound round.now }
+{
+    let _moment = round.moment;
+    for event in round.events.as_slice() {
+        event_fits(event);
+    }
+}

@@ -27,6 +27,7 @@ mod numbers;
 mod outputs_file;
 mod progress;
 mod round_lines;
+mod types;
 mod unregister;
 mod version;
 mod words;

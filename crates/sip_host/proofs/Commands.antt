@@ -25,7 +25,7 @@ same_bad : (A B : Type 0) (why : HostFault) (bad : Option Field)
 same_bad A B why None same = tt
 same_bad A B why (Some name) same = same_fault {A = A} {B = B} why (fault.BadField name) same
 
-none_bad : (made : UserCommand) (bad : Option Field)
+pub none_bad : (made : UserCommand) (bad : Option Field)
     → IfSome bad (λ name.
     ◌≡◌ {A = Result UserCommand HostFault} (Ok made) (Err (fault.BadField name)))
     → bad ≡ None

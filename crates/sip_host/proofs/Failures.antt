@@ -1,13 +1,12 @@
 -- A send that failed is reported to the agent.
-use Rattle.std.proofs.Common.{◌≡◌, ◌<◌, ℕ, zero, suc, length, arith, List, [], ◌∷◌, ◌++◌, Some, None, sym, ap, ◌∙◌, subst, append-nil}
+use Rattle.std.proofs.Common.{◌≡◌, ◌<◌, ℕ, zero, suc, length, arith, List, [], ◌∷◌, Some, None, sym, ap, ◌∙◌, subst, append-nil}
 use Rattle.std.specs.Prelude.{Option, IsSomeAnd}
 use Rattle.std.specs.Option.{option_to_list}
 use Rattle.std.specs.List.{slice_get, slice_index_or}
-use Rattle.sip_message.specs.declared.key.Key.{Key}
 use Rattle.sip_round.specs.declared.output.Output.{Output}
 use Rattle.sip_round.specs.declared.round.Event.{Event}
 use Rattle.sip_host.specs.Handing.{sent_key, told_failure}
-use Rattle.sip_host.specs.Hosting.{Reports, with_events}
+use Rattle.sip_host.specs.Hosting.{with_events}
 use Rattle.sip_host.specs.declared.host.Host.{Host}
 
 some_weaker : {X : Type 0} {P Q : X → Type 0} (o : Option X) → ((x : X) → P x → Q x)

@@ -1,7 +1,9 @@
 pub mod Commands
 pub mod Failures
+pub mod Fitting
 pub mod KeptRules
 pub mod PutTexts
+pub mod RefusedRounds
 pub mod TraitsRead
 pub mod SaidHeaders
 pub mod WouldBegin

@@ -2,6 +2,7 @@
 
 ghost use Rattle.std.specs.Prelude.{◌≡◌, ◌++◌, Err, IfOk, IfSome, IsSomeAnd, None, OnErr, OnOk, Some};
 ghost use Rattle.std.specs.Option.{option_to_list};
+ghost use Rattle.sip_files.specs.Written.{FitsSession};
 ghost use Rattle.sip_host.specs.Handing as handing;
 ghost use Rattle.sip_host.specs.declared.host_fault.HostFault.TheVariants as fault;
 
@@ -62,6 +63,7 @@ pub(crate) fn failure_of(output: &Output) -> Result<Option<Event>, HostFault>
         (λ key. option_to_list told ≡ handing.told_failure key)) }
     ensures fault { IfSome (handing.sent_key (Some output.now))
         (λ key. OnErr result (result ≡ Err fault.NoMemory)) }
+    ensures fits { IfOk result (λ told. IfSome told FitsSession) }
 {
     match output {
         Output::Send { key: Some(key), .. } => Ok(Some(Event::Failed(key.clone()?))),

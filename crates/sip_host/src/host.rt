@@ -1,7 +1,7 @@
 //! A host's agent: events go in, rounds run, outputs come out.
 
 ghost use Rattle.std.specs.Prelude.{◌≡◌, ◌⊎◌, Option, ◌<◌, ◌≤◌, ◌+◌, ◌∷◌, [], ℕ, List, IfOk, IfSome, Err, None, Ok, OnErr, OnOk, Some, length, false, nat_lt, true, if◌then◌else◌};
-ghost use Rattle.std.specs.List.{slice_get};
+ghost use Rattle.std.specs.List.{AllByRecursion, slice_get};
 ghost use Rattle.std.specs.Option.{option_copied, option_map};
 ghost use Rattle.sip_clients.specs.Name.{opening_tag};
 ghost use Rattle.sip_timers.specs.Queue.{is_due};
@@ -20,10 +20,10 @@ ghost use Rattle.sip_round.specs.declared.round.Event.TheVariants.{Command};
 ghost use Rattle.sip_host.specs.Asking.{TakesCommand, TakesHeader, command_of, without_headers};
 ghost use Rattle.sip_host.specs.Handing.{datagram_in, head_of, length_of_line, line_text, lines_text, put_if, put_in, start_of, start_text, text_of, values_text};
 ghost use Rattle.sip_host.specs.Hosting.{Begins, BeginsAt, HasLinesAt, HasValuesAt, HoldsSo, RunsRound, TakesDatagram, TakesFailure, TakesLine, TakesLines, TellsIfItBegins, after_one, after_taking, last_events, last_id_of, output_at, shard_of, with_events};
-ghost use Rattle.sip_files.specs.Written.{IsSessionRound};
 ghost use Rattle.sip_host.specs.Traits.{TellsTraitsAt};
 ghost use Rattle.sip_host.specs.Resuming.{GoesOn, Resumes, is_idle, text_of_round};
 ghost use Rattle.sip_files.specs.Rounds.{SpellsRound};
+ghost use Rattle.sip_files.specs.Written.{FitsSession};
 ghost use Rattle.sip_round.specs.AgentState.{refusal_of};
 ghost use Rattle.sip_round.specs.declared.round_fault.RoundFault.TheVariants as round_fault;
 ghost use Rattle.sip_host.specs.declared.field.Field.TheVariants as field;
@@ -41,11 +41,11 @@ use crate::line_length::LineLength;
 use crate::next_output::NextOutput;
 use crate::request_traits::{self, RequestTraits};
 use crate::resume_fault::ResumeFault;
+use crate::session_events::SessionEvents;
+use crate::session_round::SessionRound;
 use crate::start_length::StartLength;
-use sip_files::laws::what_is_written_are_the_lines_of_a_round;
 use sip_files::{
-    FileKind, GivenHeader, first_round_of, read_event_line, read_event_lines, read_round,
-    with_given, write_file_round,
+    GivenHeader, first_round_of, read_event_line, read_event_lines, read_round, with_given,
 };
 use sip_message::{Addr, Id, ReadFault, Spread, Token};
 use sip_reader::{FirstLine, HeaderLine, header_lines, header_values, read, start_line};
@@ -65,8 +65,8 @@ pub struct Host {
     agent: Agent<Spread>,
     // The headers of the next command that is made of fields.
     headers: Series<GivenHeader>,
-    events: Series<Event>,
-    last_round: Option<Round>,
+    events: SessionEvents,
+    last_round: Option<SessionRound>,
     outputs: Vec<PlacedOutput>,
     taken: usize,
 }
@@ -86,7 +86,7 @@ impl Host {
             alloc,
             agent: Agent::new(alloc, config, shards, Spread)?,
             headers: Series::new(alloc),
-            events: Series::new(alloc),
+            events: SessionEvents::new(alloc),
             last_round: None,
             outputs: Vec::new(alloc),
             taken: 0,
@@ -217,9 +217,9 @@ impl Host {
         if self.taken < self.outputs.len() {
             return Err(HostFault::OutputsLeft);
         }
-        let events = mem::replace(&mut self.events, Series::new(self.alloc));
-        let round = Round { moment, events };
-        match self.agent.run_round_in_turn_with_places(&round) {
+        let events = mem::replace(&mut self.events, SessionEvents::new(self.alloc));
+        let round = events.at(moment);
+        match self.agent.run_round_in_turn_with_places(round.get()) {
             Ok(outputs) => {
                 self.last_round = Some(round);
                 self.outputs = outputs;
@@ -227,7 +227,7 @@ impl Host {
                 Ok(())
             }
             Err(fault) => {
-                self.events = round.events;
+                self.events = round.into_events();
                 Err(HostFault::Round(fault))
             }
         }
@@ -243,11 +243,10 @@ impl Host {
     pub fn round_text(&self) -> Result<Vec<u8>, AllocError>
         ensures written { IfOk result (λ text. text.items ≡ text_of_round self.now.last_round) }
         ensures spelled { IfOk result (λ text. IfSome self.now.last_round
-            (λ round. IsSessionRound round → SpellsRound text.items round)) }
+            (SpellsRound text.items)) }
     {
-        what_is_written_are_the_lines_of_a_round();
         match &self.last_round {
-            Some(round) => write_file_round(self.alloc, FileKind::Session, round),
+            Some(round) => round.text(self.alloc),
             None => Ok(Vec::new(self.alloc)),
         }
     }
@@ -611,7 +610,8 @@ impl Host {
 
     // Runs a round whose outputs nobody takes.
     fn go_on(&mut self, round: Round) -> Result<(), RoundFault>
-        requires { is_idle self.old ≡ true }
+        requires idle { is_idle self.old ≡ true }
+        requires fits { AllByRecursion FitsSession round.events }
         ensures goes_on { OnOk result (GoesOn round self.old self.new) }
         ensures refused { IfSome (refusal_of self.old.agent round) (λ why. result ≡ Err why) }
         ensures memory { refusal_of self.old.agent round ≡ None
@@ -622,7 +622,7 @@ impl Host {
         ensures broken { result ≡ Err (round_fault.NoMemory true) → self.new.agent.shards ≡ None }
     {
         self.agent.run_round_in_turn(&round)?;
-        self.last_round = Some(round);
+        self.last_round = Some(SessionRound::of(round));
         self.outputs = Vec::new(self.alloc);
         self.taken = 0;
         Ok(())
@@ -633,13 +633,14 @@ impl Host {
         ensures { result.now ≡ last_events self.now }
     {
         match &self.last_round {
-            Some(round) => round.events.as_slice(),
+            Some(round) => round.get().events.as_slice(),
             None => &[],
         }
     }
 
     // Adds an event to the next round.
     fn add(&mut self, event: Event) -> Result<(), HostFault>
+        requires { FitsSession event }
         ensures added { OnOk result (self.new ≡ with_events self.old (event ∷ [])) }
         ensures same { OnErr result (self.new ≡ self.old) }
         ensures fault { OnErr result ((result ≡ Err fault.NoMemory)

@@ -17,6 +17,8 @@ mod line_length;
 mod next_output;
 mod request_traits;
 mod resume_fault;
+mod session_events;
+mod session_round;
 mod start_length;
 
 pub use addresses::{AddressLength, address_at, party_in};

@@ -5,7 +5,15 @@ use Rattle.sip_round.specs.declared.round.Event.TheVariants.{Command}
 use Rattle.sip_host.specs.Asking.{Makes, TakesCommand, command_of, without_headers}
 use Rattle.sip_host.specs.Hosting.{with_events}
 use Rattle.sip_host.proofs.Commands.{err_is, is_added, not_added, not_made, room_of}
+use Rattle.sip_host.proofs.Fitting.{command_fits}
 use Rattle.sip_host.proofs.host.Host.command.Goals as goal
+
+pub push-requires : goal.push-requires
+push-requires c =
+    command_fits c.args.fields.now c.in_ok-command.command c.in-Some.command
+    c.take_headers-headers.result
+    (subst (Makes (command_of c.args.fields.now)) c.in_ok-command.was c.command_of.ensures)
+    (cc (c.in_ok-command-2.ensures, c.in-Some.is))
 
 pub returns-in_err-command : goal.returns-in_err-command
 returns-in_err-command c =

@@ -1,5 +1,5 @@
 -- `Host::failed` tells the agent of a failed send, if the send belongs to a transaction.
-use Rattle.std.proofs.Common.{◌≡◌, ◌∷◌, [], Some, None, ap, sym, ◌∙◌, subst, rules}
+use Rattle.std.proofs.Common.{◌≡◌, Some, None, ap, subst, rules}
 use Rattle.std.specs.List.{slice_get}
 use Rattle.sip_host.specs.Hosting.{output_at}
 use Rattle.std.specs.Prelude.{IsSomeAnd}
