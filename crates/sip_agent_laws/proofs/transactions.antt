@@ -5,3 +5,6 @@ pub mod Repeated
 pub mod Told
 pub mod Ends
 pub mod Closed
+pub mod Often
+pub mod OftenSent
+pub mod Rejections

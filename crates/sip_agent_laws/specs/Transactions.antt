@@ -1,4 +1,5 @@
 pub mod Answered
 pub mod Closing
+pub mod Copies
 pub mod Outcomes
 pub mod Timers

@@ -3,6 +3,7 @@
 ghost use Rattle.sip_transactions.specs.Machine.{transaction_machine};
 ghost use Rattle.sip_agent_laws.specs.Transactions.Answered.{AnsweredAsBefore};
 ghost use Rattle.sip_agent_laws.specs.Transactions.Closing.{ClosedInTime, RejectedInTime};
+ghost use Rattle.sip_agent_laws.specs.Transactions.Copies.{EachRejectionIsRepeated, EachRequestIsRepeated};
 ghost use Rattle.sip_agent_laws.specs.Transactions.Outcomes.{AtMostOneOutcome, EachInviteEnds, EachRequestEnds, NoEarlyTimeout};
 ghost use Rattle.sip_agent_laws.specs.Transactions.Timers.{GoneUnlessWaiting, NothingLeftDue, RepeatedInTime, TicksAreQuiet, WaitsWithoutTimers};
 
@@ -76,4 +77,24 @@ pub fn rejected_in_time()
 /// 17.1.2.2).
 pub fn no_early_timeout()
     ensures { NoEarlyTimeout transaction_machine }
+{}
+
+/// A client's request goes out when it is started, and again at each moment of timer A (an INVITE)
+/// or timer E: after T1, then after that interval doubled each time, which for timer E is at most
+/// T2 (RFC 3261, sections 17.1.1.2 and 17.1.2.2). Let each tick come at most `lag` ms after what it
+/// finds due. If one comes after the latest moment of so many repeats, all of them have gone out
+/// before it, with the same bytes, to the same address. Only a response ends this, or timer B or F,
+/// the user, who gives the request up, or a failed send. So with no lag a request goes out 11 times
+/// in 64*T1, an INVITE 7 times; by `few_sends` of sip_transactions it never goes out more often.
+pub fn a_request_is_repeated()
+    ensures { EachRequestIsRepeated transaction_machine }
+{}
+
+/// A response of 300 to 699 to an INVITE goes out when the server is given it, and again at each
+/// moment of timer G, as a request does of timer E (see `a_request_is_repeated`): with the same
+/// bytes, to the address of the INVITE's answers, so 11 times in 64*T1 with no lag. Only its ACK
+/// ends this, or timer H, or the user, who gives the transaction up (RFC 3261, section 17.2.1; RFC
+/// 6026, section 7.1, for failed sends).
+pub fn a_rejection_is_repeated()
+    ensures { EachRejectionIsRepeated transaction_machine }
 {}
