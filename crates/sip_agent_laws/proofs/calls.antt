@@ -12,6 +12,7 @@ pub mod InTime
 pub mod OneTold
 pub mod OnlyTicks
 pub mod Outcomes
+pub mod ProvisionalsTold
 pub mod Rejected
 pub mod ServedBounds
 pub mod ServedSteps

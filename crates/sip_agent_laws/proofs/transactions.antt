@@ -8,3 +8,4 @@ pub mod Closed
 pub mod Often
 pub mod OftenSent
 pub mod Rejections
+pub mod ComeUp

@@ -9,7 +9,7 @@ ghost use Rattle.sip_agent_laws.specs.Calls.Outcomes.{CancelGoesOut, CancelWaits
 ghost use Rattle.sip_agent_laws.specs.Calls.Rejections.{RejectionsAreAccepted};
 ghost use Rattle.sip_agent_laws.specs.Calls.Rest.{AtRestAfterAll, NothingLeft};
 ghost use Rattle.sip_agent_laws.specs.Calls.Successes.{FirstSuccessIsAcknowledged};
-ghost use Rattle.sip_agent_laws.specs.Calls.Told.{ItemsOnlyAnswer, TicksOnlyAnswer, ToldAsTheyCome, ToldOnce};
+ghost use Rattle.sip_agent_laws.specs.Calls.Told.{ItemsOnlyAnswer, ProvisionalsAreTold, TicksOnlyAnswer, ToldAsTheyCome, ToldOnce};
 
 /// Whatever is held under a Call-ID: a plain response of 300 to 699 to a held request of the peer
 /// that has no final response isn't refused. It goes out once, the early dialogs of an INVITE end,
@@ -86,10 +86,13 @@ pub fn each_command_is_answered()
 
 /// Whatever is held under a Call-ID: the user is told of a response only by the input that brings
 /// one to the same request, and by no tick, command or other message. It tells of that one alone,
-/// once, with its status, tags and body.
+/// once, with its status, tags and body. Each provisional one to a request that is held is told,
+/// unless it is reliable (of these those that come in order). For final ones see
+/// `an_outcome_closes_its_request` and `a_success_is_acknowledged`.
 pub fn responses_are_told_as_they_come()
     ensures comes { ToldAsTheyCome }
     ensures once { ToldOnce }
+    ensures provisional { ProvisionalsAreTold }
 {}
 
 /// The server side of a call gives notices and responses alone: it starts no transaction, so it

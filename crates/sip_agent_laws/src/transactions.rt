@@ -4,7 +4,7 @@ ghost use Rattle.sip_transactions.specs.Machine.{transaction_machine};
 ghost use Rattle.sip_agent_laws.specs.Transactions.Answered.{AnsweredAsBefore};
 ghost use Rattle.sip_agent_laws.specs.Transactions.Closing.{ClosedInTime, RejectedInTime};
 ghost use Rattle.sip_agent_laws.specs.Transactions.Copies.{EachRejectionIsRepeated, EachRequestIsRepeated};
-ghost use Rattle.sip_agent_laws.specs.Transactions.Outcomes.{AtMostOneOutcome, EachInviteEnds, EachRequestEnds, NoEarlyTimeout};
+ghost use Rattle.sip_agent_laws.specs.Transactions.Outcomes.{AtMostOneOutcome, EachInviteEnds, EachRequestEnds, NoEarlyTimeout, ResponsesComeUp};
 ghost use Rattle.sip_agent_laws.specs.Transactions.Timers.{GoneUnlessWaiting, NothingLeftDue, RepeatedInTime, TicksAreQuiet, WaitsWithoutTimers};
 
 /// If the inputs other than ticks came by a moment, in whatever order, then after ticks of which
@@ -97,4 +97,10 @@ pub fn a_request_is_repeated()
 /// 6026, section 7.1, for failed sends).
 pub fn a_rejection_is_repeated()
     ensures { EachRejectionIsRepeated transaction_machine }
+{}
+
+/// As long as a client has no final response, each response that comes to it comes up, once, as it
+/// came, and nothing else does (RFC 3261, sections 17.1.1.2 and 17.1.2.2).
+pub fn responses_come_up()
+    ensures { ResponsesComeUp transaction_machine }
 {}
