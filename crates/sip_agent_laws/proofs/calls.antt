@@ -1,3 +1,4 @@
+pub mod Acks
 pub mod Arrived
 pub mod AtRest
 pub mod CallBounds

@@ -9,3 +9,4 @@ pub mod Often
 pub mod OftenSent
 pub mod Rejections
 pub mod ComeUp
+pub mod Acks

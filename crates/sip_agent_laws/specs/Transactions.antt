@@ -1,3 +1,4 @@
+pub mod Acks
 pub mod Answered
 pub mod Closing
 pub mod Copies

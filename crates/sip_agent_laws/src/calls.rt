@@ -1,7 +1,7 @@
 //! By when what is in a call goes on and ends: what is rejected or given up is gone, and 64*T1
 //! after the last message or command nothing is due.
 
-ghost use Rattle.sip_agent_laws.specs.Calls.Arrived.{CancelAnsweredBy487, OwnAnswered, ToldOrAnswered};
+ghost use Rattle.sip_agent_laws.specs.Calls.Arrived.{AckIsTold, CancelAnsweredBy487, OwnAnswered, ToldOrAnswered};
 ghost use Rattle.sip_agent_laws.specs.Calls.Commanded.{EachCommandIsAnswered};
 ghost use Rattle.sip_agent_laws.specs.Calls.Ending.{DialogGivenUp, EndingAddsNothing, EndingEnds, OthersAddNothing, RequestGivenUp, UserEndsAll};
 ghost use Rattle.sip_agent_laws.specs.Calls.InTime.{ClientsRemoved, NoAckTold, NoPrackTold, OnlyTicksTell, RequestsRemoved};
@@ -65,10 +65,12 @@ pub fn told_in_time()
 /// Whatever is held under a Call-ID: the input that brings a request of the peer tells the user of
 /// it once, and it is held without a final response; or the agent gives it its final response at
 /// once. So a CANCEL and a PRACK get it always (RFC 3261, sections 8.2, 9.2 and 12.2.2; RFC 3262,
-/// section 3).
+/// section 3). The input that brings the ACK of a 2xx that waits for it tells of that (section
+/// 13.3.1.4).
 pub fn told_or_answered()
     ensures either { ToldOrAnswered }
     ensures own { OwnAnswered }
+    ensures ack { AckIsTold }
 {}
 
 /// Whatever is held under a Call-ID: a CANCEL of an INVITE without a final response gets a 200.

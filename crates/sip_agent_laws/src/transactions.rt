@@ -1,6 +1,7 @@
 //! By when a transaction goes on and ends, for any list of its inputs.
 
 ghost use Rattle.sip_transactions.specs.Machine.{transaction_machine};
+ghost use Rattle.sip_agent_laws.specs.Transactions.Acks.{AcksComeUp};
 ghost use Rattle.sip_agent_laws.specs.Transactions.Answered.{AnsweredAsBefore};
 ghost use Rattle.sip_agent_laws.specs.Transactions.Closing.{ClosedInTime, RejectedInTime};
 ghost use Rattle.sip_agent_laws.specs.Transactions.Copies.{EachRejectionIsRepeated, EachRequestIsRepeated};
@@ -100,7 +101,9 @@ pub fn a_rejection_is_repeated()
 {}
 
 /// As long as a client has no final response, each response that comes to it comes up, once, as it
-/// came, and nothing else does (RFC 3261, sections 17.1.1.2 and 17.1.2.2).
-pub fn responses_come_up()
-    ensures { ResponsesComeUp transaction_machine }
+/// came, and nothing else does (RFC 3261, sections 17.1.1.2 and 17.1.2.2). So does an ACK of an
+/// INVITE's server that is gone, or that was given a 2xx (section 13.3.1.4; RFC 6026, section 7.1).
+pub fn responses_and_acks_come_up()
+    ensures responses { ResponsesComeUp transaction_machine }
+    ensures acks { AcksComeUp transaction_machine }
 {}
