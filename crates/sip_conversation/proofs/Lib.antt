@@ -102,3 +102,7 @@ pub mod WaitingClient
 pub mod AnsweringServer
 pub mod GivenAnswers
 pub mod AnswersArrive
+pub mod OneRequestUp
+pub mod FinalsOnce
+pub mod FirstFinal
+pub mod ApplicationAnswers
