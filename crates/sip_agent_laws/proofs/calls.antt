@@ -1,3 +1,4 @@
+pub mod Acks
 pub mod Arrived
 pub mod AtRest
 pub mod CallBounds
@@ -12,6 +13,7 @@ pub mod InTime
 pub mod OneTold
 pub mod OnlyTicks
 pub mod Outcomes
+pub mod ProvisionalsTold
 pub mod Rejected
 pub mod ServedBounds
 pub mod ServedSteps

@@ -1,5 +1,7 @@
+pub mod HowOften
 pub mod Later
 pub mod Next
 pub mod Repeats
 pub mod Stories
+pub mod Telling
 pub mod Unrepeated

@@ -5,3 +5,8 @@ pub mod Repeated
 pub mod Told
 pub mod Ends
 pub mod Closed
+pub mod Often
+pub mod OftenSent
+pub mod Rejections
+pub mod ComeUp
+pub mod Acks

@@ -1,3 +1,4 @@
+pub mod HowOften
 pub mod Later
 pub mod Next
 pub mod Repeats

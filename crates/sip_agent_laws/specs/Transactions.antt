@@ -1,4 +1,6 @@
+pub mod Acks
 pub mod Answered
 pub mod Closing
+pub mod Copies
 pub mod Outcomes
 pub mod Timers

@@ -1,7 +1,7 @@
 //! By when what is in a call goes on and ends: what is rejected or given up is gone, and 64*T1
 //! after the last message or command nothing is due.
 
-ghost use Rattle.sip_agent_laws.specs.Calls.Arrived.{CancelAnsweredBy487, OwnAnswered, ToldOrAnswered};
+ghost use Rattle.sip_agent_laws.specs.Calls.Arrived.{AckIsTold, CancelAnsweredBy487, OwnAnswered, ToldOrAnswered};
 ghost use Rattle.sip_agent_laws.specs.Calls.Commanded.{EachCommandIsAnswered};
 ghost use Rattle.sip_agent_laws.specs.Calls.Ending.{DialogGivenUp, EndingAddsNothing, EndingEnds, OthersAddNothing, RequestGivenUp, UserEndsAll};
 ghost use Rattle.sip_agent_laws.specs.Calls.InTime.{ClientsRemoved, NoAckTold, NoPrackTold, OnlyTicksTell, RequestsRemoved};
@@ -9,7 +9,7 @@ ghost use Rattle.sip_agent_laws.specs.Calls.Outcomes.{CancelGoesOut, CancelWaits
 ghost use Rattle.sip_agent_laws.specs.Calls.Rejections.{RejectionsAreAccepted};
 ghost use Rattle.sip_agent_laws.specs.Calls.Rest.{AtRestAfterAll, NothingLeft};
 ghost use Rattle.sip_agent_laws.specs.Calls.Successes.{FirstSuccessIsAcknowledged};
-ghost use Rattle.sip_agent_laws.specs.Calls.Told.{ItemsOnlyAnswer, TicksOnlyAnswer, ToldAsTheyCome, ToldOnce};
+ghost use Rattle.sip_agent_laws.specs.Calls.Told.{ItemsOnlyAnswer, ProvisionalsAreTold, TicksOnlyAnswer, ToldAsTheyCome, ToldOnce};
 
 /// Whatever is held under a Call-ID: a plain response of 300 to 699 to a held request of the peer
 /// that has no final response isn't refused. It goes out once, the early dialogs of an INVITE end,
@@ -65,10 +65,12 @@ pub fn told_in_time()
 /// Whatever is held under a Call-ID: the input that brings a request of the peer tells the user of
 /// it once, and it is held without a final response; or the agent gives it its final response at
 /// once. So a CANCEL and a PRACK get it always (RFC 3261, sections 8.2, 9.2 and 12.2.2; RFC 3262,
-/// section 3).
+/// section 3). The input that brings the ACK of a 2xx that waits for it tells of that (section
+/// 13.3.1.4).
 pub fn told_or_answered()
     ensures either { ToldOrAnswered }
     ensures own { OwnAnswered }
+    ensures ack { AckIsTold }
 {}
 
 /// Whatever is held under a Call-ID: a CANCEL of an INVITE without a final response gets a 200.
@@ -86,10 +88,13 @@ pub fn each_command_is_answered()
 
 /// Whatever is held under a Call-ID: the user is told of a response only by the input that brings
 /// one to the same request, and by no tick, command or other message. It tells of that one alone,
-/// once, with its status, tags and body.
+/// once, with its status, tags and body. Each provisional one to a request that is held is told,
+/// unless it is reliable (of these those that come in order). For final ones see
+/// `an_outcome_closes_its_request` and `a_success_is_acknowledged`.
 pub fn responses_are_told_as_they_come()
     ensures comes { ToldAsTheyCome }
     ensures once { ToldOnce }
+    ensures provisional { ProvisionalsAreTold }
 {}
 
 /// The server side of a call gives notices and responses alone: it starts no transaction, so it

@@ -3,7 +3,7 @@
 
 ghost use Rattle.std.specs.Prelude.{List};
 ghost use Rattle.sip_agent_laws.specs.Histories.ClientRequests.{EachCancelGoesOnce, EachCancelWaitsAsAsked, EachClientRequestHasItsStory, EachRepeatedAckIsTheSame};
-ghost use Rattle.sip_agent_laws.specs.Histories.HeldDialogs.{EachDialogIsHeldUntilItEnds, EachEndHasItsOpening, EachEndIsToldOnce};
+ghost use Rattle.sip_agent_laws.specs.Histories.HeldDialogs.{EachDialogIsHeldUntilItEnds, EachEndHasItsOpening, EachEndIsToldOnce, NoEndIsUntold};
 ghost use Rattle.sip_agent_laws.specs.Histories.DirectSends.{GivesAcksOfCalls, GivesDirectSends};
 ghost use Rattle.sip_agent_laws.specs.Histories.OneAck.{OneAckAnInput};
 ghost use Rattle.sip_round.specs.Answers.{answers};
@@ -34,10 +34,11 @@ pub fn each_dialog_is_held_until_it_ends()
 
 /// In any rounds, only the input of a call that ends a dialog tells the user of its end, once. So
 /// between two such notices of a name an input opened a dialog of it (RFC 3261, sections 12.3 and
-/// 15.1).
+/// 15.1). And an input after which a dialog is no longer held tells of its end.
 pub fn each_end_is_told_once()
     ensures once { EachEndIsToldOnce }
     ensures opening { EachEndHasItsOpening }
+    ensures untold { NoEndIsUntold }
 {}
 
 /// In any rounds, the Sends without a transaction's key that a round gives are exactly those that

@@ -1,9 +1,11 @@
 //! By when a transaction goes on and ends, for any list of its inputs.
 
 ghost use Rattle.sip_transactions.specs.Machine.{transaction_machine};
+ghost use Rattle.sip_agent_laws.specs.Transactions.Acks.{AcksComeUp};
 ghost use Rattle.sip_agent_laws.specs.Transactions.Answered.{AnsweredAsBefore};
 ghost use Rattle.sip_agent_laws.specs.Transactions.Closing.{ClosedInTime, RejectedInTime};
-ghost use Rattle.sip_agent_laws.specs.Transactions.Outcomes.{AtMostOneOutcome, EachInviteEnds, EachRequestEnds, NoEarlyTimeout};
+ghost use Rattle.sip_agent_laws.specs.Transactions.Copies.{EachRejectionIsRepeated, EachRequestIsRepeated};
+ghost use Rattle.sip_agent_laws.specs.Transactions.Outcomes.{AtMostOneOutcome, EachInviteEnds, EachRequestEnds, NoEarlyTimeout, ResponsesComeUp};
 ghost use Rattle.sip_agent_laws.specs.Transactions.Timers.{GoneUnlessWaiting, NothingLeftDue, RepeatedInTime, TicksAreQuiet, WaitsWithoutTimers};
 
 /// If the inputs other than ticks came by a moment, in whatever order, then after ticks of which
@@ -76,4 +78,32 @@ pub fn rejected_in_time()
 /// 17.1.2.2).
 pub fn no_early_timeout()
     ensures { NoEarlyTimeout transaction_machine }
+{}
+
+/// A client's request goes out when it is started, and again at each moment of timer A (an INVITE)
+/// or timer E: after T1, then after that interval doubled each time, which for timer E is at most
+/// T2 (RFC 3261, sections 17.1.1.2 and 17.1.2.2). Let each tick come at most `lag` ms after what it
+/// finds due. If one comes after the latest moment of so many repeats, all of them have gone out
+/// before it, with the same bytes, to the same address. Only a response ends this, or timer B or F,
+/// the user, who gives the request up, or a failed send. So with no lag a request goes out 11 times
+/// in 64*T1, an INVITE 7 times; by `few_sends` of sip_transactions it never goes out more often.
+pub fn a_request_is_repeated()
+    ensures { EachRequestIsRepeated transaction_machine }
+{}
+
+/// A response of 300 to 699 to an INVITE goes out when the server is given it, and again at each
+/// moment of timer G, as a request does of timer E (see `a_request_is_repeated`): with the same
+/// bytes, to the address of the INVITE's answers, so 11 times in 64*T1 with no lag. Only its ACK
+/// ends this, or timer H, or the user, who gives the transaction up (RFC 3261, section 17.2.1; RFC
+/// 6026, section 7.1, for failed sends).
+pub fn a_rejection_is_repeated()
+    ensures { EachRejectionIsRepeated transaction_machine }
+{}
+
+/// As long as a client has no final response, each response that comes to it comes up, once, as it
+/// came, and nothing else does (RFC 3261, sections 17.1.1.2 and 17.1.2.2). So does an ACK of an
+/// INVITE's server that is gone, or that was given a 2xx (section 13.3.1.4; RFC 6026, section 7.1).
+pub fn responses_and_acks_come_up()
+    ensures responses { ResponsesComeUp transaction_machine }
+    ensures acks { AcksComeUp transaction_machine }
 {}

@@ -70,7 +70,7 @@ last_closes event id call_id response side status client has last =
     ∙ eq-eqb status status refl) i in
     rw (last, final) (first_told _ _ told, refl)
 
-abbrev TakenBy : Call → Event → AnUp → Message → Option ℕ → Option Client → ClientTaken
+abbrev pub TakenBy : Call → Event → AnUp → Message → Option ℕ → Option Client → ClientTaken
 TakenBy call event up response status o =
     let side = side_of call in
     option_map_or (λ status. option_map_or
@@ -181,7 +181,7 @@ cancel_waits calls call event command now invite found lacks none fresh =
 
 -- ---- a CANCEL that waits
 
-start_last : (list : List Client) (last : Client) (done : Clients × List CallOut)
+pub start_last : (list : List Client) (last : Client) (done : Clients × List CallOut)
     → (fold start done (list ++ last ∷ [])).1
     ≡ (fold start done list).1 ++ (start ([], []) last).1
 start_last [] last done = refl

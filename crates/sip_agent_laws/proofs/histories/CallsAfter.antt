@@ -25,7 +25,7 @@ held_so config rounds call_id =
     same_call (calls_of config) call_id None (call_inputs_of config rounds call_id)
 
 -- first some inputs, and then others
-from_both : (calls : Calls) (before after : List (Timed CallItem)) (state : Option Call)
+pub from_both : (calls : Calls) (before after : List (Timed CallItem)) (state : Option Call)
     → call_from calls state (before ++ after)
     ≡ call_from calls (call_from calls state before) after
 from_both calls [] after state = refl

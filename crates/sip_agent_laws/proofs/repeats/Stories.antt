@@ -115,10 +115,10 @@ module _ (now : ℕ) (held : HeldRequest) where
 
 -- ---- all of them
 
-abbrev sent_to : ℕ → HeldRequest → List CallOut
+abbrev pub sent_to : ℕ → HeldRequest → List CallOut
 sent_to now held = responses_to held (flat_map (sent_by held) (request_passes now held))
 
-held_sent : (calls : Calls) (state : Option Call) (now : ℕ)
+pub held_sent : (calls : Calls) (state : Option Call) (now : ℕ)
     → goes_out (call_step calls state None now).1 ≡ flat_map (sent_to now) (requests_held state)
 held_sent calls None now = refl
 held_sent calls (Some call) now =

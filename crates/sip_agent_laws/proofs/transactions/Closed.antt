@@ -530,7 +530,7 @@ quiet_first key client first =
     (begins begins_quietly refl (role_of key) row.trigger step row.row))
     (begun (role_of key) first.input))
 
-client_key : (branch method : List ℕ) → is_client (role_of (key.Client branch method)) ≡ true
+pub client_key : (branch method : List ℕ) → is_client (role_of (key.Client branch method)) ≡ true
 client_key branch method =
     by_test (is_same_method method (codes "INVITE"))
     (λ hit. ap (λ b. is_client (cond b InviteClient Client)) hit)

@@ -15,9 +15,10 @@ use Rattle.sip_user.specs.declared.command.UserCommand.TheVariants.{Respond}
 use Rattle.sip_user.specs.declared.item.CallOut.{CallOut}
 use Rattle.sip_user.specs.declared.item.CallOut.TheVariants.{Command, Notice}
 use Rattle.sip_user.specs.declared.item.Item.TheVariants.{Up, User}
-use Rattle.sip_user.specs.declared.notice.Notice.TheVariants.{Cancel, Request}
+use Rattle.sip_user.specs.declared.notice.Notice.TheVariants.{Ack, Cancel, Request}
 use Rattle.sip_held_dialogs.specs.Requests.{is_cancel, is_prack}
 use Rattle.sip_served.specs.declared.held_request.HeldRequest.{HeldRequest}
+use Rattle.sip_served.specs.Rules.Arrivals.{awaits}
 use Rattle.sip_served.specs.Cancel.{cancelled_request, is_unanswered_invite, user_termination}
 use Rattle.sip_served.specs.State.{has_id}
 use Rattle.sip_calls.specs.declared.call.Call.{Call}
@@ -75,6 +76,14 @@ OwnAnswered = (calls : Calls) (state : Option Call) (event : Id) (up : AnUp)
     (request : Message) (reply_to : Addr) (now : ℕ) → up.kind ≡ kind.Request request reply_to
     → (is_cancel request || is_prack request) ≡ true
     → IsAnswered up request (call_step calls state (Some (event, Up up)) now)
+
+-- whatever is held: the user is told of an ACK of an INVITE whose 2xx waits for it, and of no more
+abbrev pub AckIsTold : Type 0
+AckIsTold = (calls : Calls) (call : Call) (event : Id) (up : AnUp) (ack : Message) (now : ℕ)
+    (invite : HeldRequest) → up.kind ≡ kind.Ack ack
+    → find (awaits ack) (call.served).requests ≡ Some invite
+    → (call_step calls (Some call) (Some (event, Up up)) now).1
+    ≡ Notice (Ack up.call_id invite.id ack.body) ∷ []
 
 -- ---- a CANCEL of an INVITE without a final response
 

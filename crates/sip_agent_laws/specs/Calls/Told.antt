@@ -1,5 +1,5 @@
 -- When the user is told of a response, and what the server side of a call gives.
-use Rattle.std.specs.Prelude.{◌≡◌, ◌⊎◌, ℕ, Bool, true, false, List, [], ◌∷◌, Option, None, Some, filter, if◌then◌else◌}
+use Rattle.std.specs.Prelude.{◌≡◌, ◌⊎◌, ℕ, Bool, true, false, ◌&&◌, List, [], ◌∷◌, Option, None, Some, filter, is_some, if◌then◌else◌}
 use Rattle.std.specs.List.{AllByRecursion, list_any}
 use Rattle.sip_message.specs.declared.id.Id.{Id}
 use Rattle.sip_message.specs.declared.message.Message.{Message}
@@ -13,11 +13,14 @@ use Rattle.sip_user.specs.declared.item.Item.{Item}
 use Rattle.sip_user.specs.declared.item.Item.TheVariants.{Up, User}
 use Rattle.sip_user.specs.declared.notice.Notice.TheVariants.{Response}
 use Rattle.sip_held_dialogs.specs.Ids.{is_id}
+use Rattle.sip_held_dialogs.specs.Requests.{is_final, requires_100rel}
 use Rattle.sip_served.specs.Rules.Arrivals.{server_item}
 use Rattle.sip_served.specs.Rules.Ticks.{server_tick}
 use Rattle.sip_served.specs.State.{State}
+use Rattle.sip_clients.specs.Client.{client_at}
 use Rattle.sip_clients.specs.Provisionals.{is_response as is_told}
 use Rattle.sip_clients.specs.Rules.Responses.{status_of}
+use Rattle.sip_clients.specs.declared.client.Client.{Client}
 use Rattle.sip_calls.specs.declared.call.Call.{Call}
 use Rattle.sip_calls.specs.declared.calls.Calls.{Calls}
 use Rattle.sip_calls.specs.Call.{CallItem, call_step}
@@ -66,6 +69,21 @@ abbrev pub ToldOnce : Type 0
 ToldOnce = (calls : Calls) (state : Option Call) (input : Option CallItem) (now : ℕ)
     → let told = filter is_told (call_step calls state input now).1 in
     (told ≡ []) ⊎ IsAsItCame input told
+
+-- a reliable provisional response: of these those are told that come in order (RFC 3262, section 4)
+abbrev pub is_reliable : Message → Bool
+is_reliable response = requires_100rel response && is_some response.rseq
+
+-- Whatever is held: the input that brings another provisional response to a request that is held
+-- tells the user of it, before all else.
+abbrev pub ProvisionalsAreTold : Type 0
+ProvisionalsAreTold = (calls : Calls) (call : Call) (event : Id) (up : AnUp) (response : Message)
+    (status now : ℕ) (client : Client) → up.kind ≡ kind.Response response
+    → status_of response.start ≡ Some status → is_final status ≡ false
+    → is_reliable response ≡ false → client_at up.id call.clients ≡ Some client
+    → (others : List CallOut) × ((call_step calls (Some call) (Some (event, Up up)) now).1
+    ≡ Notice (Response up.call_id up.id status (tag_of response.from) (tag_of response.to)
+    response.body) ∷ others)
 
 -- ---- the server side
 

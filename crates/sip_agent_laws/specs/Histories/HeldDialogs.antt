@@ -1,6 +1,6 @@
 -- Which dialogs an agent holds in a call after rounds, and how often the user is told of the end of
 -- one (RFC 3261, sections 12.1, 12.3 and 15.1).
-use Rattle.std.specs.Prelude.{◌≡◌, ℕ, ◌+◌, ◌≤◌, false, List, ◌∷◌, ◌++◌, None, cond, is_some}
+use Rattle.std.specs.Prelude.{◌≡◌, ℕ, ◌+◌, ◌≤◌, true, false, List, ◌∷◌, ◌++◌, None, cond, is_some}
 use Rattle.keyed_machine.specs.Machine.{Timed}
 use Rattle.sip_held_dialogs.specs.Dialogs.{dialog_at}
 use Rattle.sip_held_dialogs.specs.declared.held_dialog.DialogId.{DialogId}
@@ -41,3 +41,15 @@ EachEndHasItsOpening = (config : Config) (rounds : List Round) (call_id : List �
     told_from (calls_of config) name call after
     + held_now name (call_after config rounds call_id)
     ≤ held_now name call + opened_from (calls_of config) name call after
+
+-- In any rounds: if a dialog of a name is held before an input of its call, and none after it, that
+-- input tells the user of its end, once. So no dialog ends untold.
+abbrev pub NoEndIsUntold : Type 0
+NoEndIsUntold = (config : Config) (rounds : List Round) (call_id : List ℕ)
+    (before after : List (Timed CallItem)) (input : Timed CallItem)
+    → call_inputs_of config rounds call_id ≡ before ++ input ∷ after → (name : DialogId)
+    → let call = call_from (calls_of config) None before in
+    let done = call_step (calls_of config) call input.input input.moment in
+    is_some (dialog_at name (side_held call).dialogs) ≡ true
+    → is_some (dialog_at name (side_held done.0).dialogs) ≡ false
+    → ends_told name done.1 ≡ 1

@@ -1,13 +1,18 @@
 -- By when a client transaction tells how its request ended.
-use Rattle.std.specs.Prelude.{◌≡◌, ℕ, ◌+◌, ◌≤◌, Bool, true, false, ◌||◌, ◌⊎◌, nat_le, nat_lt, List, ◌++◌, Some, is_none, count_by}
+use Rattle.std.specs.Prelude.{◌≡◌, ℕ, ◌+◌, ◌≤◌, Bool, true, false, ◌||◌, ◌⊎◌, nat_le, nat_lt, List, [], ◌∷◌, ◌++◌, Some, filter, is_none, count_by}
 use Rattle.std.specs.List.{list_any}
+use Rattle.sip_message.specs.declared.addr.Addr.{Addr}
+use Rattle.sip_message.specs.declared.id.Id.{Id}
 use Rattle.sip_message.specs.declared.key.Key.{Key}
 use Rattle.sip_message.specs.declared.key.Key.TheVariants as key
+use Rattle.sip_message.specs.declared.message.Message.{Message}
 use Rattle.sip_message.specs.declared.start_line.StartLine.{StartLine}
 use Rattle.sip_message.specs.declared.start_line.StartLine.TheVariants as start
+use Rattle.sip_message.specs.Message.{is_request_message}
 use Rattle.sip_timers.specs.declared.estimate.TheConstants.{LIFETIME as 64*T1}
-use Rattle.keyed_machine.specs.Machine.{LifeIn, Machine, Timed, said_at_first, said_in_rest, state_left}
+use Rattle.keyed_machine.specs.Machine.{LifeIn, Machine, Timed, adds, given_at, said_at_first, said_in_rest, state_after, state_left}
 use Rattle.sip_transactions.specs.declared.input.Input.{Input}
+use Rattle.sip_transactions.specs.declared.input.Input.TheVariants.{Receive}
 use Rattle.sip_transactions.specs.declared.life.Life.{Life}
 use Rattle.sip_transactions.specs.declared.output.Out.{Out}
 use Rattle.sip_transactions.specs.declared.output.Out.TheVariants.{Up}
@@ -17,6 +22,7 @@ use Rattle.sip_transactions.specs.declared.state.Role.TheVariants as role
 use Rattle.sip_transactions.specs.declared.state.State.TheVariants.{Proceeding}
 use Rattle.sip_transactions.specs.Steps.Input.{is_abandon, role_of}
 use Rattle.sip_transactions.specs.Steps.Life.{state_of}
+use Rattle.sip_agent_laws.specs.Transactions.Closing.{lacks_final}
 use Rattle.sip_agent_laws.specs.Transactions.Timers.{has_tick_from}
 
 -- the class of a response (RFC 3261, section 7.2): 100 to 199, or 200 to 699
@@ -94,3 +100,20 @@ NoEarlyTimeout machine = (branch method : List ℕ) (inputs : List (Timed Input)
     (life : LifeIn machine (key.Client branch method) inputs)
     → has_tick_from (life.first.moment + 64*T1) life.rest ≡ false
     → ups is_timeout (said_at_first life ++ said_in_rest life) ≡ 0
+
+-- As long as no final response came, each response that comes to a client comes up, once and alone
+-- (RFC 3261, sections 17.1.1.2 and 17.1.2.2).
+abbrev pub ResponsesComeUp : Machine Key Life (Timed Input) Out → Type 0
+ResponsesComeUp machine = (branch method : List ℕ) (inputs : List (Timed Input)) (life : Life)
+    → let key = key.Client branch method in
+    state_after machine key inputs ≡ Some life → lacks_final life.state ≡ true
+    → (id : Id) (response : Message) (reply_to : Addr) (now : ℕ)
+    → is_request_message response ≡ false
+    → filter (is_up (λ kind. true))
+    (adds machine key (Some life) (given_at now (Receive id response reply_to)))
+    ≡ Up (record {
+      key = key;
+      id = life.context.id;
+      call_id = life.context.call_id;
+      kind = Response response;
+    }) ∷ []
