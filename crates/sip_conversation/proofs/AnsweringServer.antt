@@ -36,8 +36,9 @@ use Rattle.sip_transactions.specs.Steps.Input.{answer_of, arrival_of, class_of, 
 use Rattle.sip_transactions.specs.Steps.Life.{armed, begun, context_by, last_of, life_after, life_in, step_machine, stepped}
 use Rattle.sip_transactions.specs.Steps.Output.{handed_out, made_bytes, made_of, outputs_of}
 use Rattle.sip_conversation.specs.AnswersArrive.{is_final_given, is_receipt}
-use Rattle.sip_conversation.specs.Copies.{copies, is_copy}
-use Rattle.sip_conversation.proofs.OftenSent.{by_role, one_copy, or_false, to_role}
+use Rattle.sip_agent_laws.specs.Transactions.Copies.{copies, is_copy}
+use Rattle.sip_agent_laws.proofs.transactions.Often.{one_copy, or_false}
+use Rattle.sip_agent_laws.proofs.transactions.OftenSent.{by_role, to_role}
 
 abbrev pub server_by : Key → Option Life → ℕ → Option Input → Option Trigger → Option Life × List Out
 server_by key held now input trigger = by_role role.Server key held now input trigger

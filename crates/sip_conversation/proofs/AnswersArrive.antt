@@ -68,7 +68,7 @@ use Rattle.sip_agent_laws.proofs.agents.OutcomeTold.{outcome_is_told}
 use Rattle.sip_conversation.specs.Answers.{IsResponseTo}
 use Rattle.sip_conversation.specs.AnswersArrive.{AnswersArrive, IsFinallyAnswered, IsToldBy, answer_time, is_receipt}
 use Rattle.sip_conversation.specs.Conversation.{Carried, Side, Turn, is_side, peer, rounds_of}
-use Rattle.sip_conversation.specs.Copies.{TicksInTime, copies, is_copy, is_invite}
+use Rattle.sip_agent_laws.specs.Transactions.Copies.{TicksInTime, copies, is_copy, is_invite}
 use Rattle.sip_conversation.specs.Delivery.{Delivers, GoesOn, OneIsDelivered, RunInTime, RunsAfter, ShareAClock, copies_sent, is_lost, is_sent, longest_datagram}
 use Rattle.sip_conversation.specs.Messages.{CallSays, CallsKeepRules, ComesUnchanged, IsGiven, IsSaid, come_from}
 use Rattle.sip_conversation.specs.Replies.{AreCounted}
@@ -82,7 +82,8 @@ use Rattle.sip_conversation.proofs.FirstStart.{AreOthers, IsOther}
 use Rattle.sip_conversation.proofs.Fronts.{counted_front, front_carried, front_keeps, other_side, own_side}
 use Rattle.sip_conversation.proofs.GivenAnswers.{asked_so, copies_request, is_it, plain_inputs, sent_by_home, sent_there}
 use Rattle.sip_conversation.proofs.Longer.{rounds_of-append, says_longer}
-use Rattle.sip_conversation.proofs.OftenSent.{begins, one_copy}
+use Rattle.sip_agent_laws.proofs.transactions.Often.{one_copy}
+use Rattle.sip_agent_laws.proofs.transactions.OftenSent.{begins}
 use Rattle.sip_conversation.proofs.OneCallId.{lower, out_replies}
 use Rattle.sip_conversation.proofs.OneOrigin.{IsStartedHere, said_starts, same_start}
 use Rattle.sip_conversation.proofs.RequestsAsked.{out_own}

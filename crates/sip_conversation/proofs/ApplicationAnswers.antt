@@ -60,7 +60,7 @@ use Rattle.sip_agent_laws.proofs.calls.Commanded.{each_command_is_answered}
 use Rattle.sip_conversation.specs.Answers.{Responds, RespondsTo}
 use Rattle.sip_conversation.specs.AnswersArrive.{ApplicationsAnswersArrive, IsFinallyAnswered, IsToldBy, answer_time}
 use Rattle.sip_conversation.specs.Conversation.{Carried, Side, Turn, is_side, peer, rounds_of}
-use Rattle.sip_conversation.specs.Copies.{is_invite}
+use Rattle.sip_agent_laws.specs.Transactions.Copies.{is_invite}
 use Rattle.sip_conversation.specs.Delivery.{ShareAClock}
 use Rattle.sip_conversation.specs.Messages.{CallSays, CallsKeepRules, ComesUp, IsGiven, come_from}
 use Rattle.sip_conversation.specs.Replies.{AreCounted}

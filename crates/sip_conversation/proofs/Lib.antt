@@ -83,7 +83,6 @@ pub mod SaidOrigins
 pub mod AcksFollow
 pub mod AcksSaid
 pub mod ServedReplies
-pub mod OftenSent
 pub mod RoundInputs
 pub mod CopiesSent
 pub mod UpTo

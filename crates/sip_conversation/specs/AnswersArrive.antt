@@ -26,7 +26,7 @@ use Rattle.sip_round.specs.declared.round.Round.{Round}
 use Rattle.sip_round.specs.Laws.{inputs_of}
 use Rattle.sip_conversation.specs.Answers.{RespondsTo}
 use Rattle.sip_conversation.specs.Conversation.{Side, Turn, given_by, peer, rounds_of}
-use Rattle.sip_conversation.specs.Copies.{is_invite}
+use Rattle.sip_agent_laws.specs.Transactions.Copies.{is_invite}
 use Rattle.sip_conversation.specs.Delivery.{Delivers, IsUnderWay, RunInTime, RunsAfter, ShareAClock, longest_datagram}
 use Rattle.sip_conversation.specs.Messages.{come_from}
 use Rattle.sip_conversation.specs.Replies.{AreCounted}

@@ -36,7 +36,7 @@ use Rattle.sip_round.specs.Given.{all_given}
 use Rattle.sip_round.specs.Laws.{call_inputs_of, inputs_of}
 use Rattle.sip_conversation.specs.Answers.{IsHandedUp}
 use Rattle.sip_conversation.specs.Conversation.{Side, Turn, peer, rounds_of}
-use Rattle.sip_conversation.specs.Copies.{TicksInTime, is_address, latest_repeat, pace_of}
+use Rattle.sip_agent_laws.specs.Transactions.Copies.{TicksInTime, is_address, latest_repeat, pace_of}
 use Rattle.sip_conversation.specs.Messages.{CallSays, come_from}
 use Rattle.sip_conversation.specs.Replies.{AreCounted}
 

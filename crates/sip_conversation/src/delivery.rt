@@ -1,27 +1,14 @@
 //! Laws of what arrives, over a network that delivers.
 
 ghost use Rattle.std.specs.Prelude.{List};
-ghost use Rattle.sip_transactions.specs.Machine.{transaction_machine};
 ghost use Rattle.sip_conversation.specs.AnswersArrive.{AnswersArrive, ApplicationsAnswersArrive};
 ghost use Rattle.sip_conversation.specs.GoOut.{AskedArrive, RequestsGoOut};
 ghost use Rattle.sip_conversation.specs.Commands.{CommandsKeepTypes};
 ghost use Rattle.sip_conversation.specs.Conversation.{Carried, Turn, of_sides};
-ghost use Rattle.sip_conversation.specs.Copies.{EachRequestIsRepeated};
 ghost use Rattle.sip_conversation.specs.Delivery.{RequestsArrive};
 
 use crate::laws::sides_are_fair;
 use sip_round::Config;
-
-/// A client's request goes out when it is started, and again at each moment of timer A (an INVITE)
-/// or timer E: after T1, then after that interval doubled each time, which for timer E is at most
-/// T2 (RFC 3261, sections 17.1.1.2 and 17.1.2.2). Let each tick come at most `lag` ms after what it
-/// finds due. If one comes after the latest moment of so many repeats, all of them have gone out
-/// before it, with the same bytes, to the same address. Only a response ends this, or timer B or F,
-/// the user, who gives the request up, or a failed send. So with no lag a request goes out 11 times
-/// in 64*T1, an INVITE 7 times; by `few_sends` of sip_transactions it never goes out more often.
-pub fn a_request_is_repeated()
-    ensures { EachRequestIsRepeated transaction_machine }
-{}
 
 /// A conversation in which datagrams may be lost, duplicated, late or out of order, but not all of
 /// them. The moments of its turns are of one clock. Each side runs its next round at most `lag` ms
@@ -29,11 +16,11 @@ pub fn a_request_is_repeated()
 /// the other one, one after another, one at least comes within `delay` ms. Then each request that a
 /// side sends to the other one arrives, if it isn't given up, none of its sends is reported to have
 /// failed, and its text has at most 65,507 bytes. Its tries are the request and its repeats (see
-/// `a_request_is_repeated`). It arrives by the latest moment of its last try and that delay, if
-/// these are before timer B or F fires. So this is said of 11 tries of a request other than INVITE
-/// if 10 lags and the delay are below 500 ms, of 10 if 9 lags and the delay are below 4,500 ms, of
-/// 9 if 8 lags and the delay are below 8,500 ms; and of 6 tries of an INVITE if 5 lags and the
-/// delay are below 16,500 ms.
+/// `a_request_is_repeated` of sip_agent_laws). It arrives by the latest moment of its last try and
+/// that delay, if these are before timer B or F fires. So this is said of 11 tries of a request
+/// other than INVITE if 10 lags and the delay are below 500 ms, of 10 if 9 lags and the delay are
+/// below 4,500 ms, of 9 if 8 lags and the delay are below 8,500 ms; and of 6 tries of an INVITE if
+/// 5 lags and the delay are below 16,500 ms.
 ///
 /// The request comes up to the call of its Call-ID, as it was sent, except for the stamp. The other
 /// user is told of it, and of the end of a dialog of that call if it is a BYE. Or the other agent
@@ -82,9 +69,9 @@ pub fn what_is_asked_for_arrives(one: Config, other: Config)
 /// response, the first one. It is sent then, and again at each repeat of the request that comes.
 /// Then the application that asked for the request is told of a response, under the Call-ID of the
 /// call and the id of its command: with the status, the tags and the body of that one. That holds
-/// unless it gives the request up, or a send of it is reported to have failed. It holds of the
-/// response that the other application gives: its command has the id under which the request came
-/// up, and wasn't refused. This is the first final one, with the status and the body of the command.
+/// unless it gives the request up, or a send of it is reported to have failed. It also holds of the
+/// final response that the other application gives to the request: its command has the id under
+/// which the request came up, and wasn't refused; the response has its status and its body.
 ///
 /// The time for that, from the response on, depends on how many copies of a datagram it takes until
 /// one comes. If each comes, that is the delay. If one of two does, it is 8 s and twice the lag and
