@@ -82,9 +82,9 @@ pub fn what_is_asked_for_arrives(one: Config, other: Config)
 /// response, the first one. It is sent then, and again at each repeat of the request that comes.
 /// Then the application that asked for the request is told of a response, under the Call-ID of the
 /// call and the id of its command: with the status, the tags and the body of that one. That holds
-/// unless it gives the request up, or a send of it is reported to have failed. It holds of the
-/// response that the other application gives: its command has the id under which the request came
-/// up, and wasn't refused. This is the first final one, with the status and the body of the command.
+/// unless it gives the request up, or a send of it is reported to have failed. It also holds of the
+/// final response that the other application gives to the request: its command has the id under
+/// which the request came up, and wasn't refused; the response has its status and its body.
 ///
 /// The time for that, from the response on, depends on how many copies of a datagram it takes until
 /// one comes. If each comes, that is the delay. If one of two does, it is 8 s and twice the lag and
