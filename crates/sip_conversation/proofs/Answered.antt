@@ -1,5 +1,5 @@
 -- A response that an agent says is its user's answer, or its own, to a request that came.
-use Rattle.std.proofs.Common.{◌≡◌, ℕ, true, List, [], ◌∷◌, ◌++◌, refl, sym, ap, ◌∙◌, subst}
+use Rattle.std.proofs.Common.{◌≡◌, ℕ, true, List, [], ◌∷◌, ◌++◌, refl, sym, ap, ◌∙◌, subst, append_assoc}
 use Rattle.std.specs.Prelude.{Contains, IfSome, Option, None, Some, codes}
 use Rattle.std.specs.List.{AllByRecursion}
 use Rattle.std.proofs.lemmas.Option.{same_Some}
@@ -33,8 +33,11 @@ use Rattle.sip_served.specs.declared.arrival.Arrival.{Arrival}
 use Rattle.sip_served.specs.declared.held_request.HeldRequest.{HeldRequest}
 use Rattle.sip_clients.specs.Clients.{status_of}
 use Rattle.sip_clients.specs.Name.{name_of}
+use Rattle.sip_calls.specs.declared.call.Call.{Call}
 use Rattle.sip_calls.specs.Call.{CallItem, call_machine}
 use Rattle.sip_calls.specs.CallShard.{call_cmp}
+use Rattle.sip_calls.specs.HeldRequests.{requests_held}
+use Rattle.sip_calls.specs.Histories.{call_from}
 use Rattle.sip_calls.specs.OwnCall.{IsInputOf}
 use Rattle.sip_round.specs.declared.config.Config.{Config}
 use Rattle.sip_round.specs.declared.round.Round.{Round}
@@ -50,14 +53,14 @@ use Rattle.sip_conversation.specs.Answers.IsAnswered.{ByAgent, ByUser}
 use Rattle.sip_conversation.proofs.ToTags.{answered_to}
 use Rattle.sip_conversation.proofs.AckTexts.{no_ack}
 use Rattle.sip_conversation.proofs.Along.{along, among_after, given_after}
-use Rattle.sip_conversation.proofs.Among.{all_of, each_of}
+use Rattle.sip_conversation.proofs.Among.{all_of, each_of, none_among}
 use Rattle.sip_conversation.proofs.Bridge.{any_arrival}
-use Rattle.sip_conversation.proofs.CallSays.{AnyAck, AnyCall, InputGives, OutGives, UserGives, all_say}
+use Rattle.sip_conversation.proofs.CallSays.{AnyAck, AnyCall, HeldIs, InputGives, OutGives, UserGives, all_held, all_say}
 use Rattle.sip_clients.proofs.ClientAsks.{IsAsk}
 use Rattle.sip_conversation.proofs.OneTransaction.{KindCame}
 use Rattle.sip_conversation.proofs.Origins.{TimedComes, inputs_come}
 use Rattle.sip_conversation.proofs.PracksCame.{arrived, was_sent}
-use Rattle.sip_conversation.proofs.ServedReplies.{Cancels, KindBrought, OwnReplies}
+use Rattle.sip_conversation.proofs.ServedReplies.{Cancels, KeepsGiven, KindBrought, OwnReplies}
 use Rattle.sip_conversation.proofs.Unstamped.{no_status}
 use Rattle.sip_conversation.proofs.Ups.{ItemCame, TimedCame, UpCame}
 use Rattle.sip_conversation.proofs.Rounds.{ArrivalFits, OutFits, RoundFits, TimedFits, call_says, calls_give, inputs_fit}
@@ -356,6 +359,19 @@ module _ (config : Config) (rounds : List Round) (Came : Message → Type 0) whe
       (came : AllCame) where
     -- ---- what an agent says
 
+    gives_at : (call_id : List ℕ) (front : List (Timed CallItem)) (timed : Timed CallItem)
+        (rest : List (Timed CallItem))
+        → call_inputs_of config rounds call_id ≡ front ++ timed ∷ rest
+        → InputGives (CameTo call_id) (AnswersIn call_id) IsAnswerOf (answer_of call_id)
+        (own_in call_id) (calls_of config) (given_after (calls_of config) front timed) timed.input
+    gives_at call_id front timed rest are =
+        let inputs = call_inputs_of config rounds call_id in
+        let among = among_after front timed rest are in
+        input_gives call_id front timed.moment timed.input rest are
+        (each_of (TimedCame (UpCame Came)) inputs timed (came.calls call_id) among)
+        (each_of (TimedComes config rounds call_id) inputs timed
+        (inputs_come config rounds call_id) among).0
+
     pub out_says : (out : CallOut) → CallSays config rounds out → OutGives IsAnswerOf out
     out_says out said =
         let call_id = said.0 in
@@ -367,12 +383,31 @@ module _ (config : Config) (rounds : List Round) (Came : Message → Type 0) whe
         (own_in call_id) (calls_of config) call_id None inputs
         (along (InputGives (CameTo call_id) (AnswersIn call_id) IsAnswerOf (answer_of call_id)
         (own_in call_id) (calls_of config)) (calls_of config) inputs
-        (λ front timed rest are.
-        let among = among_after front timed rest are in
-        input_gives call_id front timed.moment timed.input rest are
-        (each_of (TimedCame (UpCame Came)) inputs timed (came.calls call_id) among)
-        (each_of (TimedComes config rounds call_id) inputs timed
-        (inputs_come config rounds call_id) among).0) [] inputs refl) tt)) said.1
+        (gives_at call_id) [] inputs refl) tt)) said.1
+
+    -- a request that is held came up to its call
+    pub held_came : (call_id : List ℕ) (front rest : List (Timed CallItem))
+        → call_inputs_of config rounds call_id ≡ front ++ rest → (held : HeldRequest)
+        → Contains (requests_held (call_from (calls_of config) None front)) held
+        → CameTo call_id (arrived held)
+    held_came call_id front rest are held among =
+        by_call (call_from (calls_of config) None front)
+        (all_held (CameTo call_id) (AnswersIn call_id) IsAnswerOf (answer_of call_id)
+        (own_in call_id) (calls_of config) None front
+        (along (InputGives (CameTo call_id) (AnswersIn call_id) IsAnswerOf (answer_of call_id)
+        (own_in call_id) (calls_of config)) (calls_of config) front
+        (λ first timed more is. gives_at call_id first timed (more ++ rest)
+        (are ∙ (ap (λ inputs. inputs ++ rest) is ∙ append_assoc first (timed ∷ more) rest))) []
+        front refl) tt) among
+      where
+        by_call : (call : Option Call)
+            → HeldIs (CameTo call_id) (AnswersIn call_id) IsAnswerOf (answer_of call_id)
+            (own_in call_id) call
+            → Contains (requests_held call) held → CameTo call_id (arrived held)
+        by_call None is among = absurd (none_among held among)
+        by_call (Some call) is among =
+            (each_of (KeepsGiven (CameTo call_id) (AnswersIn call_id)) (call.served).requests held
+            is.served among).came
 
     -- a transaction is started with a request
     abbrev StartAsks : Key → Input → Type 0

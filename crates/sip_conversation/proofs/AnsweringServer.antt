@@ -36,13 +36,14 @@ use Rattle.sip_transactions.specs.Steps.Input.{answer_of, arrival_of, class_of, 
 use Rattle.sip_transactions.specs.Steps.Life.{armed, begun, context_by, last_of, life_after, life_in, step_machine, stepped}
 use Rattle.sip_transactions.specs.Steps.Output.{handed_out, made_bytes, made_of, outputs_of}
 use Rattle.sip_conversation.specs.AnswersArrive.{is_final_given, is_receipt}
-use Rattle.sip_conversation.specs.Copies.{copies, is_copy}
-use Rattle.sip_conversation.proofs.OftenSent.{by_role, one_copy, or_false, to_role}
+use Rattle.sip_agent_laws.specs.Transactions.Copies.{copies, is_copy}
+use Rattle.sip_agent_laws.proofs.transactions.Often.{one_copy, or_false}
+use Rattle.sip_agent_laws.proofs.transactions.OftenSent.{by_role, to_role}
 
-abbrev server_by : Key → Option Life → ℕ → Option Input → Option Trigger → Option Life × List Out
+abbrev pub server_by : Key → Option Life → ℕ → Option Input → Option Trigger → Option Life × List Out
 server_by key held now input trigger = by_role role.Server key held now input trigger
 
-to_server : (key : Key) → role_of key ≡ role.Server → (held : Option Life) (now : ℕ)
+pub to_server : (key : Key) → role_of key ≡ role.Server → (held : Option Life) (now : ℕ)
     (input : Option Input) → is_abandon input ≡ false
     → stepped key held (record { moment = now; input = input })
     ≡ server_by key held now input (trigger_of held now input)
@@ -159,7 +160,7 @@ gives_final timed = is_final_given timed.input
 abbrev pub comes : Timed Input → Bool
 comes timed = is_receipt timed.input
 
-kept_so : (to : Addr) (input : Option Input) → IsPlain to input → is_abandon input ≡ false
+pub kept_so : (to : Addr) (input : Option Input) → IsPlain to input → is_abandon input ≡ false
 kept_so to None plain = refl
 kept_so to (Some (Receive id message reply_to)) plain = refl
 kept_so to (Some (Start id call_id message at)) plain = refl
@@ -213,7 +214,7 @@ receipt_trigger message is = by_line message.start is
     by_line (start.Response status reason) is = absurd (false≢true is)
 
 -- what isn't one begins nothing
-no_receipt : (message : Message) → (is_request_message message
+pub no_receipt : (message : Message) → (is_request_message message
     && not (is_same_method message.cseq.method (codes "ACK"))) ≡ false
     → (arrival_of message.start message.cseq.method ≡ on.Ack)
     ⊎ ((c : Class) × (arrival_of message.start message.cseq.method ≡ on.Response c))
@@ -285,11 +286,11 @@ module _ (key : Key) (own : role_of key ≡ role.Server) (to : Addr) where
       by_class class.Success = refl
       by_class class.Failure = refl
 
-  abbrev Fresh : ℕ → Option Input → Type 0
+  abbrev pub Fresh : ℕ → Option Input → Type 0
   Fresh now input =
       (server_by key None now input (trigger_of None now input)).0 ≡ None
 
-  fresh_other : (now : ℕ) (input : Option Input) → IsPlain to input → is_receipt input ≡ false
+  pub fresh_other : (now : ℕ) (input : Option Input) → IsPlain to input → is_receipt input ≡ false
       → Fresh now input
   fresh_other now None plain other = refl
   fresh_other now (Some (Receive id message reply_to)) plain other =
@@ -404,17 +405,17 @@ SendsOnly bytes (out.Dropped place why) = Unit {0}
 
 module _ (key : Key) (own : role_of key ≡ role.Server) (to : Addr) (context : Context)
     (bytes : List ℕ) (end : ℕ) where
-  abbrev done : Life
+  abbrev pub done : Life
   done = answered key own to context bytes end
 
-  abbrev done_by : ℕ → Option Input → Option Trigger → Option Life × List Out
+  abbrev pub done_by : ℕ → Option Input → Option Trigger → Option Life × List Out
   done_by now input trigger = server_by key (Some done) now input trigger
 
-  record SendsAgain (input : Option Input) (after : Option Life × List Out) : Type 0 where
-    outs : List Out
-    is : after ≡ (Some done, outs)
-    only : AllByRecursion (SendsOnly bytes) outs
-    again : is_receipt input ≡ true → 1 ≤ copies context.to bytes outs
+  pub record SendsAgain (input : Option Input) (after : Option Life × List Out) : Type 0 where
+    pub outs : List Out
+    pub is : after ≡ (Some done, outs)
+    pub only : AllByRecursion (SendsOnly bytes) outs
+    pub again : is_receipt input ≡ true → 1 ≤ copies context.to bytes outs
 
   silent : (now : ℕ) (input : Option Input) (trigger : Option Trigger)
       → is_receipt input ≡ false → done_by now input trigger ≡ (Some done, [])
@@ -467,7 +468,7 @@ module _ (key : Key) (own : role_of key ≡ role.Server) (to : Addr) (context : 
       (λ late. let from : end ≤ now = leb-true end now late in absurd (omega (arith, from, early)))
       (λ before. ap (λ e. done_by now None (cond e (Some on.TimeoutDue) None)) before)
 
-  by_trigger : (now : ℕ) (input : Option Input) → IsPlain to input → now < end
+  pub by_trigger : (now : ℕ) (input : Option Input) → IsPlain to input → now < end
       → SendsAgain input (done_by now input (trigger_of (Some done) now input))
   by_trigger now None plain early =
       silent now None (tick_of now (Some done)) refl (quiet_tick now early)

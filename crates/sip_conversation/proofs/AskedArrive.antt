@@ -15,7 +15,7 @@ use Rattle.sip_round.specs.declared.config.Config.{Config}
 use Rattle.sip_round.specs.declared.output.Output.{Output}
 use Rattle.sip_round.specs.Laws.{inputs_of}
 use Rattle.sip_conversation.specs.Conversation.{Carried, Side, Turn, peer, rounds_of}
-use Rattle.sip_conversation.specs.Copies.{latest_repeat, pace_of}
+use Rattle.sip_agent_laws.specs.Transactions.Copies.{latest_repeat, pace_of}
 use Rattle.sip_conversation.specs.Delivery.{ArrivesBy, IsUnderWay, is_lost, longest_datagram}
 use Rattle.sip_conversation.specs.GoOut.{AskedArrive, GoesOut}
 use Rattle.sip_conversation.specs.Messages.{CallsKeepRules}

@@ -24,7 +24,7 @@ use Rattle.sip_round.specs.declared.round.Round.{Round}
 use Rattle.sip_round.specs.Laws.{inputs_of}
 use Rattle.sip_round.proofs.NamesRise.{names_differ}
 use Rattle.sip_conversation.specs.Conversation.{Side, Turn, peer, rounds_of}
-use Rattle.sip_conversation.specs.Copies.{is_invite}
+use Rattle.sip_agent_laws.specs.Transactions.Copies.{is_invite}
 use Rattle.sip_conversation.specs.Delivery.{IsUnderWay, is_lost, longest_datagram}
 use Rattle.sip_conversation.specs.Messages.{CallSays}
 use Rattle.sip_conversation.specs.Replies.{AreCounted}

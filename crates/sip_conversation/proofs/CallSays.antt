@@ -22,6 +22,7 @@ use Rattle.sip_served.specs.declared.arrival.Arrival.{Arrival}
 use Rattle.sip_clients.specs.Clients.{invite_taken, plain_taken}
 use Rattle.sip_clients.specs.Tick.{clients_ticked}
 use Rattle.sip_calls.specs.Call.{CallItem, Taken, call_machine, call_step, event_of, kept, made_tag, new_call}
+use Rattle.sip_calls.specs.Histories.{call_from}
 use Rattle.sip_calls.specs.Sides.{by_server, holds_any, side_of}
 use Rattle.sip_calls.specs.Steps.Call.{command_taken, first_command_taken, step_taken, ticked, up_taken}
 use Rattle.sip_calls.proofs.SameSteps.{same_step}
@@ -199,7 +200,7 @@ module _ (Brought : Arrival → Type 0) (Given : Arrival → Message → Type 0)
             (clients_give Says (clients_ticked (side_of first.0) now).1 so.1),
       )
 
-  abbrev HeldIs : Option Call → Type 0
+  abbrev pub HeldIs : Option Call → Type 0
   HeldIs held = IfSome held CallIs
 
   abbrev After : Option Call × List CallOut → Type 0
@@ -257,3 +258,11 @@ module _ (Brought : Arrival → Type 0) (Given : Arrival → Message → Type 0)
       let after = step_says calls state timed.input timed.moment gives.0 is in
       both Gives step.1 (outputs_from (call_machine calls) call_id step.0 inputs)
       after.1 (all_say calls call_id step.0 inputs gives.1 after.0)
+
+  pub all_held : (calls : Calls) (state : Option Call) (inputs : List (Timed CallItem))
+      → AllGive calls state inputs → HeldIs state → HeldIs (call_from calls state inputs)
+  all_held calls state [] gives is = is
+  all_held calls state (timed ∷ inputs) gives is =
+      let step = call_step calls state timed.input timed.moment in
+      all_held calls step.0 inputs gives.1
+      (step_says calls state timed.input timed.moment gives.0 is).0

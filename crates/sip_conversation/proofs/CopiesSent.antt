@@ -25,7 +25,7 @@ use Rattle.sip_round.specs.Laws.{inputs_of, said_of}
 use Rattle.sip_round.proofs.GivenSends.{sends_given}
 use Rattle.sip_round.proofs.Runs.{answers_count, each_from-append}
 use Rattle.sip_round.proofs.Said.{transaction_alone}
-use Rattle.sip_conversation.specs.Copies.{copies, is_copy}
+use Rattle.sip_agent_laws.specs.Transactions.Copies.{copies, is_copy}
 use Rattle.sip_conversation.specs.Delivery.{is_sent}
 use Rattle.sip_conversation.proofs.RoundInputs.{inputs-append, inputs_after}
 

@@ -20,7 +20,7 @@ use Rattle.sip_transactions.specs.Steps.Input.{arrival_of, class_of, is_same_met
 use Rattle.sip_transactions.specs.Steps.Life.{acted_if, begun, life_after, step_for, step_machine, stepped}
 use Rattle.sip_transactions.proofs.Rules.{at_steps}
 use Rattle.sip_conversation.proofs.Among.{first_or_later, none_among}
-use Rattle.sip_conversation.proofs.OftenSent.{by_role, by_row, role_at}
+use Rattle.sip_agent_laws.proofs.transactions.OftenSent.{by_role, by_row, role_at}
 
 -- ---- without a start nothing is held
 

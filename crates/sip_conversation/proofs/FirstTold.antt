@@ -27,7 +27,7 @@ use Rattle.sip_conversation.proofs.RepliesSaid.{IsFair}
 
 -- ---- the last turn of a side
 
-same_side : (one two : Side) → is_side one two ≡ true → two ≡ one
+pub same_side : (one two : Side) → is_side one two ≡ true → two ≡ one
 same_side side.One side.One is = refl
 same_side side.Other side.Other is = refl
 same_side side.One side.Other is = absurd (false≢true is)

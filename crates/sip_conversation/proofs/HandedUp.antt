@@ -33,7 +33,7 @@ use Rattle.sip_transactions.proofs.OneRequest.{first_once}
 use Rattle.sip_transactions.proofs.Rules.{at_steps}
 use Rattle.sip_conversation.proofs.Among.{among_first, among_later}
 use Rattle.sip_conversation.proofs.CopiesSent.{outputs-append}
-use Rattle.sip_conversation.proofs.OftenSent.{by_role}
+use Rattle.sip_agent_laws.proofs.transactions.OftenSent.{by_role}
 use Rattle.sip_conversation.proofs.UpTo.{stands_at}
 
 -- a request is handed up

@@ -83,7 +83,6 @@ pub mod SaidOrigins
 pub mod AcksFollow
 pub mod AcksSaid
 pub mod ServedReplies
-pub mod OftenSent
 pub mod RoundInputs
 pub mod CopiesSent
 pub mod UpTo
@@ -102,3 +101,7 @@ pub mod WaitingClient
 pub mod AnsweringServer
 pub mod GivenAnswers
 pub mod AnswersArrive
+pub mod OneRequestUp
+pub mod FinalsOnce
+pub mod FirstFinal
+pub mod ApplicationAnswers

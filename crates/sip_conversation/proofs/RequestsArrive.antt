@@ -28,7 +28,7 @@ use Rattle.sip_round.specs.declared.config.Config.{Config}
 use Rattle.sip_round.specs.declared.round.Round.{Round}
 use Rattle.sip_round.specs.Laws.{inputs_of}
 use Rattle.sip_conversation.specs.Conversation.{Carried, Side, Turn, peer, rounds_of}
-use Rattle.sip_conversation.specs.Copies.{EachRequestIsRepeated, TicksInTime, copies, ends_by, ends_wait, latest_repeat, pace_of}
+use Rattle.sip_agent_laws.specs.Transactions.Copies.{EachRequestIsRepeated, TicksInTime, copies, ends_by, ends_wait, latest_repeat, pace_of}
 use Rattle.sip_conversation.specs.Delivery.{ArrivesBy, Delivers, GoesOn, OneIsDelivered, RequestsArrive, RunInTime, RunsAfter, ShareAClock, copies_sent, is_lost}
 use Rattle.sip_conversation.specs.Messages.{CallSays, CallsKeepRules, IsGiven, come_from}
 use Rattle.sip_conversation.specs.Replies.{AreCounted}
@@ -39,7 +39,7 @@ use Rattle.sip_conversation.proofs.ComesAt.{text_given}
 use Rattle.sip_conversation.proofs.CopiesSent.{later_copies, sent_at_least}
 use Rattle.sip_conversation.proofs.Fronts.{counted_front, front_carried, front_keeps}
 use Rattle.sip_conversation.proofs.Longer.{rounds_of-append}
-use Rattle.sip_conversation.proofs.OftenSent as often
+use Rattle.sip_agent_laws.proofs.transactions.OftenSent as often
 use Rattle.sip_conversation.proofs.OneCallId.{out_replies}
 use Rattle.sip_conversation.proofs.RoundInputs.{BeginsWithTick, begins_with_tick, inputs-append, inputs_after, inputs_after_at, inputs_at}
 use Rattle.sip_conversation.proofs.UpTo.{InputBy, IsBy, IsFirst, IsLater, Parted, StandsEarly, each_not, has_first, in_time_after, in_time_first, own_round, parted, round_of, rounds_at, some_one, stands_early}

@@ -230,20 +230,20 @@ module _ (config : Config) (Fits : Key → Input → Type 0) where
     ticks_fit None = tt
     ticks_fit (Some moment) = (tt, tt)
 
-    phase_fits : (phase : Phase Key (Timed Input)) → AllByRecursion TimedItemFits phase.items
+    pub phase_fits : (phase : Phase Key (Timed Input)) → AllByRecursion TimedItemFits phase.items
         → AllByRecursion (TimedFits key) (own_inputs key_cmp tick_at phase key)
     phase_fits phase fit =
         both (TimedFits key) (map tick_at (option_to_list phase.moment))
         (inputs_of key_cmp phase.items key) (ticks_fit phase.moment) (own_fit phase.items fit)
 
-    first_fits : (number : ℕ) (past : Past) (round : Round) → RoundFits round
+    pub first_fits : (number : ℕ) (past : Past) (round : Round) → RoundFits round
         → AllByRecursion TimedItemFits (first config number past round).items
     unfolding first
     first_fits number past round fit =
         timed_fit round.moment (transaction_items (arrivals config number past round))
         (events_fit number 1 round.events fit)
 
-    third_fits : (number : ℕ) (past : Past) (round : Round)
+    pub third_fits : (number : ℕ) (past : Past) (round : Round)
         → AllByRecursion OutFits (given_second config number past round)
         → AllByRecursion TimedItemFits (third config number past round).items
     unfolding third

@@ -1,6 +1,6 @@
 -- A request that comes up to a call is told to the user, or the agent answers it by itself.
-use Rattle.std.proofs.Common.{◌≡◌, ◌⊎◌, inl, inr, ⊎_elim, ℕ, Bool, true, false, List, [], ◌∷◌, refl, sym, ap, ◌∙◌, subst, cond}
-use Rattle.std.specs.Prelude.{◌&&◌, ◌||◌, Contains, Option, None, Some, codes, find, not, if◌then◌else◌}
+use Rattle.std.proofs.Common.{◌≡◌, ◌⊎◌, inl, inr, ⊎_elim, ℕ, Bool, true, false, List, [], ◌∷◌, ◌++◌, refl, sym, ap, ◌∙◌, subst, cond}
+use Rattle.std.specs.Prelude.{◌&&◌, ◌||◌, ◌==◌, Contains, Option, None, Some, codes, find, length, not, if◌then◌else◌}
 use Rattle.std.specs.List.{list_any}
 use Rattle.std.specs.Option.{option_map_or}
 use Rattle.std.specs.Map.{lookup, set_value}
@@ -29,7 +29,7 @@ use Rattle.sip_user.specs.declared.notice.Notice.TheVariants.{Ended, Request}
 use Rattle.sip_held_dialogs.specs.declared.held_dialog.DialogId.{DialogId}
 use Rattle.sip_held_dialogs.specs.declared.held_dialog.HeldDialog.{HeldDialog}
 use Rattle.sip_held_dialogs.specs.Dialogs.{Dialogs, dialog_at, dialog_changed, ended_at, ended_notice, is_dialog_id, tag_text}
-use Rattle.sip_held_dialogs.specs.Requests.{dialog_id_of, has_to_tag, is_bye, is_cancel, is_prack, is_unknown_option, local_tag_of}
+use Rattle.sip_held_dialogs.specs.Requests.{dialog_id_of, dialog_id_of_tags, has_to_tag, is_bye, is_cancel, is_prack, is_unknown_option, local_tag_of}
 use Rattle.sip_served.specs.declared.arrival.Arrival.{Arrival}
 use Rattle.sip_served.specs.declared.held_request.HeldRequest.{HeldRequest}
 use Rattle.sip_served.specs.Rules.Arrivals.{after_request, is_above, is_merged, is_named_by, no_such_call, prack_for, prack_received, request_for_user, request_in_dialog, request_received}
@@ -40,6 +40,7 @@ use Rattle.sip_calls.specs.Call.{CallItem, Taken, call_machine, call_step, event
 use Rattle.sip_calls.specs.CallShard.{call_cmp}
 use Rattle.sip_calls.specs.Histories.{call_from}
 use Rattle.sip_calls.specs.OwnCall.{call_of_notice}
+use Rattle.sip_calls.specs.Provisionals.{side_held}
 use Rattle.sip_round.specs.declared.config.Config.{Config}
 use Rattle.sip_round.specs.declared.output.Output.TheVariants as output
 use Rattle.sip_round.specs.declared.round.Round.{Round}
@@ -78,10 +79,14 @@ still_there name change dialogs held is =
     (change held)) o dialogs)) is
     ∙ lookup_set (is_dialog_id name) dialogs held (change held) is
 
+not_so : (b : Bool) → not b ≡ true → b ≡ false
+not_so true is = absurd (false≢true is)
+not_so false is = refl
+
 -- ---- one arrival
 
 module _ (up : AnUp) (request : Message) (reply_to : Addr) (tag : List ℕ)
-    (no_cancel : is_cancel request ≡ false) where
+    (no_cancel : is_cancel request ≡ false) (all : Dialogs) where
   abbrev arrival : Arrival
   arrival = record {
     id = up.id;
@@ -97,6 +102,15 @@ module _ (up : AnUp) (request : Message) (reply_to : Addr) (tag : List ℕ)
         (tag_of request.from) request.body))
     pub ends : is_bye request ≡ true → (held : HeldDialog) × Contains outs (ended_notice held)
 
+  -- 481 is given to a request in a dialog, other than PRACK, only if this isn't held
+  abbrev pub Gone : ℕ → Type 0
+  Gone status = status ≡ 481 → has_to_tag request ≡ true → is_prack request ≡ false
+      → dialog_at (dialog_id_of request tag) all ≡ None
+
+  other_status : (status : ℕ) → (status == 481) ≡ false → Gone status
+  other_status status other is tagged plain =
+      absurd (false≢true (sym other ∙ ap (λ n. n == 481) is))
+
   pub record Answers (outs : List CallOut) : Type 0 where
     pub status : ℕ
     pub reason : List ℕ
@@ -105,6 +119,7 @@ module _ (up : AnUp) (request : Message) (reply_to : Addr) (tag : List ℕ)
     pub starts : response.start ≡ Response status reason
     pub empty : response.body ≡ []
     pub own : is_own_status request status ≡ true
+    pub gone : Gone status
 
   abbrev pub IsFine : ServedTaken → Type 0
   IsFine taken = TellsUser taken.1 ⊎ Answers taken.1
@@ -115,16 +130,16 @@ module _ (up : AnUp) (request : Message) (reply_to : Addr) (tag : List ℕ)
   if_fine false x y first second = second refl
 
   or_fine : {X : Type 0} (f : X → ServedTaken) (otherwise : ServedTaken) (o : Option X)
-      → ((x : X) → o ≡ Some x → IsFine (f x)) → IsFine otherwise
+      → ((x : X) → o ≡ Some x → IsFine (f x)) → (o ≡ None → IsFine otherwise)
       → IsFine (option_map_or f o otherwise)
-  or_fine f otherwise None each none = none
+  or_fine f otherwise None each none = none refl
   or_fine f otherwise (Some x) each none = each x refl
 
   answers : (after : State) (status : ℕ) (reason : List ℕ) (response : Message)
       (others : List CallOut) → response.start ≡ Response status reason → response.body ≡ []
-      → is_own_status request status ≡ true
+      → is_own_status request status ≡ true → Gone status
       → IsFine (after, Command up.id (Answer up.key response) ∷ others)
-  answers after status reason response others starts empty own = inr record {
+  answers after status reason response others starts empty own gone = inr record {
     status = status;
     reason = reason;
     response = response;
@@ -132,25 +147,31 @@ module _ (up : AnUp) (request : Message) (reply_to : Addr) (tag : List ℕ)
     starts = starts;
     empty = empty;
     own = own;
+    gone = gone;
   }
 
-  none_fine : (state : State) → IsFine (no_such_call state arrival)
-  none_fine state =
-      answers state 481 (codes "Call/Transaction Does Not Exist") _ [] refl refl refl
+  none_fine : (state : State) → Gone 481 → IsFine (no_such_call state arrival)
+  none_fine state gone =
+      answers state 481 (codes "Call/Transaction Does Not Exist") _ [] refl refl refl gone
+
+  no_prack : is_prack request ≡ true → Gone 481
+  no_prack prack is tagged other = absurd (false≢true (sym other ∙ prack))
 
   prack_fine : (state : State) (call_id : List ℕ) → is_prack request ≡ true → (rack : RAck)
       (invite : HeldRequest) → IsFine (prack_for state call_id arrival rack invite)
   prack_fine state call_id prack rack invite =
       answers (prack_for state call_id arrival rack invite).0 200 (codes "OK") _ _ refl refl prack
+      (other_status 200 refl)
 
   rack_fine : (state : State) (call_id : List ℕ) (name : DialogId) (created_by : Id)
       → is_prack request ≡ true → (o : Option RAck)
       → IsFine (prack_received state call_id name created_by arrival o)
-  rack_fine state call_id name created_by prack None = none_fine state
+  rack_fine state call_id name created_by prack None = none_fine state (no_prack prack)
   rack_fine state call_id name created_by prack (Some rack) =
       or_fine (prack_for state call_id arrival rack) (no_such_call state arrival)
       (find (is_named_by rack name created_by) state.requests)
-      (λ invite is. prack_fine state call_id prack rack invite) (none_fine state)
+      (λ invite is. prack_fine state call_id prack rack invite)
+      (λ none. none_fine state (no_prack prack))
 
   -- for the user: a BYE is in a dialog, or comes without a To tag
   user_fine : (state : State) (name : DialogId)
@@ -180,7 +201,8 @@ module _ (up : AnUp) (request : Message) (reply_to : Addr) (tag : List ℕ)
       let dialogs = dialog_changed name (after_request request) state.dialogs in
       let noted : State = record state { dialogs = dialogs } in
       if_fine (not (is_above held request.cseq.number)) _ _
-      (λ e. answers state 500 (codes "Server Internal Error") _ [] refl refl refl)
+      (λ e. answers state 500 (codes "Server Internal Error") _ [] refl refl refl
+      (other_status 500 refl))
       (λ e. if_fine (is_prack request) _ _
       (λ prack. rack_fine noted up.call_id name held.created_by prack request.rack)
       (λ no_prack. user_fine noted name (λ bye. (
@@ -195,22 +217,25 @@ module _ (up : AnUp) (request : Message) (reply_to : Addr) (tag : List ℕ)
   no_bye true y e is = false≢true (sym e)
   no_bye false y e is = false≢true is
 
-  pub fine : (state : State) (now : ℕ) → IsFine (request_received state up.call_id arrival now)
+  pub fine : (state : State) → state.dialogs ≡ all → (now : ℕ)
+      → IsFine (request_received state up.call_id arrival now)
   unfolding request_received
-  fine state now =
+  fine state same now =
       let name = dialog_id_of request tag in
       if_fine (is_cancel request) _ _
       (λ cancel. absurd (false≢true (sym no_cancel ∙ cancel)))
       (λ no_cancel. if_fine (not (has_to_tag request)
       && list_any (is_merged request) state.requests) _ _
-      (λ e. answers state 482 (codes "Loop Detected") _ [] refl refl refl)
+      (λ e. answers state 482 (codes "Loop Detected") _ [] refl refl refl (other_status 482 refl))
       (λ e. if_fine (list_any is_unknown_option request.require) _ _
-      (λ f. answers state 420 (codes "Bad Extension") _ [] refl refl refl)
+      (λ f. answers state 420 (codes "Bad Extension") _ [] refl refl refl (other_status 420 refl))
       (λ f. if_fine (has_to_tag request) _ _
       (λ tagged. or_fine (request_in_dialog state up.call_id name arrival)
       (no_such_call state arrival) (dialog_at name state.dialogs)
-      (inside_fine state name tagged) (none_fine state))
-      (λ g. if_fine (is_bye request || is_prack request) _ _ (λ h. none_fine state)
+      (inside_fine state name tagged)
+      (λ none. none_fine state (λ is so plain. ap (dialog_at name) (sym same) ∙ none)))
+      (λ g. if_fine (is_bye request || is_prack request) _ _
+      (λ h. none_fine state (λ is tagged plain. absurd (false≢true (sym g ∙ tagged))))
       (λ h. user_fine state name
       (λ bye. absurd (no_bye (is_bye request) (is_prack request) h bye)))))))
 
@@ -228,25 +253,34 @@ as_received calls (Some call) event up now = refl
 
 -- what a call gives to a request that comes up
 pub record FineAt (up : AnUp) (request : Message) (reply_to : Addr)
-    (no_cancel : is_cancel request ≡ false) (outs : List CallOut) : Type 0 where
-  pub tag : List ℕ
-  pub fine : TellsUser up request reply_to tag no_cancel outs
-      ⊎ Answers up request reply_to tag no_cancel outs
+    (no_cancel : is_cancel request ≡ false) (dialogs : Dialogs) (outs : List CallOut) : Type 0
+  where
+    pub tag : List ℕ
+    pub fine : TellsUser up request reply_to tag no_cancel dialogs outs
+        ⊎ Answers up request reply_to tag no_cancel dialogs outs
+
+-- the dialogs of what is held, if anything is
+held_dialogs : (calls : Calls) (state : Option Call)
+    → ((of_state calls state).served).dialogs ≡ (side_held state).dialogs
+held_dialogs calls None = refl
+held_dialogs calls (Some call) = refl
 
 fine_at : (calls : Calls) (state : Option Call) (event : Id) (up : AnUp) (request : Message)
     (reply_to : Addr) (no_cancel : is_cancel request ≡ false) (now : ℕ)
     → up.kind ≡ kind.Request request reply_to
-    → FineAt up request reply_to no_cancel (call_step calls state (Some (event, Up up)) now).1
+    → FineAt up request reply_to no_cancel (side_held state).dialogs
+    (call_step calls state (Some (event, Up up)) now).1
 fine_at calls state event up request reply_to no_cancel now is =
     let call = of_state calls state in
     let tag = local_tag_of request (made_tag (event_of calls event now)) in
+    let all = (side_held state).dialogs in
     record {
       tag = tag;
-      fine = subst (λ (outs : List CallOut). TellsUser up request reply_to tag no_cancel outs
-          ⊎ Answers up request reply_to tag no_cancel outs)
+      fine = subst (λ (outs : List CallOut). TellsUser up request reply_to tag no_cancel all outs
+          ⊎ Answers up request reply_to tag no_cancel all outs)
           (sym (ap (λ (taken : Taken). taken.1) (as_received calls state event up now
           ∙ ap (λ (k : UpKind). kept (received call (event_of calls event now) up k)) is)))
-          (fine up request reply_to tag no_cancel call.served now);
+          (fine up request reply_to tag no_cancel all call.served (held_dialogs calls state) now);
     }
 
 -- ---- in rounds
@@ -259,13 +293,17 @@ module _ (config : Config) (rounds : List Round)
 
     pub in_call : (now : ℕ) (event : Id) (item : Item)
         → Contains (call_inputs_of config rounds call_id) (given_at now (event, item))
-        → (before : List (Timed CallItem)) × ((out : CallOut)
+        → (before after : List (Timed CallItem))
+        × (call_inputs_of config rounds call_id ≡ before ++ given_at now (event, item) ∷ after)
+        × ((out : CallOut)
         → Contains (call_step calls (call_from calls None before) (Some (event, item)) now).1 out
         → Contains (said_of_call config rounds call_id) out)
     in_call now event item among =
         let timed : Timed CallItem = given_at now (event, item) in
         let at = stands_at (call_inputs_of config rounds call_id) timed among in (
           at.before,
+          at.after,
+          at.are,
           λ out gives.
               subst (λ outs. Contains outs out)
               (sym (call_alone calls alone [] (past_of config rounds).calls call_id))
@@ -294,10 +332,11 @@ module _ (config : Config) (rounds : List Round)
 
     module _ (up : AnUp) (request : Message) (reply_to : Addr)
         (no_cancel : is_cancel request ≡ false) (call_is : request.call_id ≡ call_id) where
-      tells : (tag : List ℕ) (outs : List CallOut)
+      tells : (tag : List ℕ) (dialogs : Dialogs) (outs : List CallOut)
           → ((out : CallOut) → Contains outs out → Contains (said_of_call config rounds call_id) out)
-          → TellsUser up request reply_to tag no_cancel outs → IsTold config rounds request up.id
-      tells tag outs said user =
+          → TellsUser up request reply_to tag no_cancel dialogs outs
+          → IsTold config rounds request up.id
+      tells tag dialogs outs said user =
           let told = notice_given (Request up.call_id up.id request.cseq.method tag
           (tag_of request.from) request.body) (said _ user.told) in
           record {
@@ -318,11 +357,21 @@ module _ (config : Config) (rounds : List Round)
                 );
           }
 
-      responds : (tag : List ℕ) (outs : List CallOut)
+      -- the dialog of a request with a To tag
+      tagged_name : (tag : List ℕ) → has_to_tag request ≡ true
+          → dialog_id_of request tag ≡ dialog_id_of_tags (tag_of request.to) (tag_of request.from)
+      tagged_name tag tagged =
+          ap (λ b. dialog_id_of_tags (if b then tag else tag_of request.to) (tag_of request.from))
+          (not_so (length (tag_of request.to) == 0) tagged)
+
+      responds : (now : ℕ) (event : Id) (before after : List (Timed CallItem))
+          → call_inputs_of config rounds call_id ≡ before ++ given_at now (event, Up up) ∷ after
+          → (tag : List ℕ) (outs : List CallOut)
           → ((out : CallOut) → Contains outs out → Contains (said_of_call config rounds call_id) out)
-          → Answers up request reply_to tag no_cancel outs
+          → Answers up request reply_to tag no_cancel
+          (side_held (call_from calls None before)).dialogs outs
           → IsAnsweredThere config rounds request up.id up.key
-      responds tag outs said answer = record {
+      responds now event before after are tag outs said answer = record {
         status = answer.status;
         reason = answer.reason;
         response = answer.response;
@@ -330,6 +379,17 @@ module _ (config : Config) (rounds : List Round)
         starts = answer.starts;
         empty = answer.empty;
         own = answer.own;
+        gone = λ is tagged plain. record {
+          before = before;
+          now = now;
+          event = event;
+          up = up;
+          after = after;
+          inputs_are = ap (call_inputs_of config rounds) call_is ∙ are;
+          names = refl;
+          none = ap (λ name. dialog_at name (side_held (call_from calls None before)).dialogs)
+              (sym (tagged_name tag tagged)) ∙ answer.gone is tagged plain;
+        };
       }
 
       -- the user is told of a request that comes up, or the agent answers it by itself
@@ -341,5 +401,6 @@ module _ (config : Config) (rounds : List Round)
           let state = call_from calls None own.0 in
           let outs = (call_step calls state (Some (comes.1, Up up)) comes.0).1 in
           let so = fine_at calls state comes.1 up request reply_to no_cancel comes.0 is in
-          ⊎_elim (λ user. inl (tells so.tag outs own.1 user))
-          (λ answer. inr (responds so.tag outs own.1 answer)) so.fine
+          ⊎_elim (λ user. inl (tells so.tag (side_held state).dialogs outs own.3 user))
+          (λ answer. inr (responds comes.0 comes.1 own.0 own.1 own.2 so.tag outs own.3 answer))
+          so.fine

@@ -12,10 +12,10 @@ use Rattle.sip_transactions.specs.declared.life.Life.{Life}
 use Rattle.sip_transactions.specs.Machine.{transaction_machine}
 use Rattle.sip_round.specs.declared.round.Round.{Round}
 use Rattle.sip_conversation.specs.Conversation.{Side, Turn, is_side, rounds_of}
-use Rattle.sip_conversation.specs.Copies.{TicksInTime}
+use Rattle.sip_agent_laws.specs.Transactions.Copies.{TicksInTime}
 use Rattle.sip_conversation.specs.Delivery.{ShareAClock}
 use Rattle.sip_conversation.proofs.Fronts.{own_side}
-use Rattle.sip_conversation.proofs.OftenSent.{or_false}
+use Rattle.sip_agent_laws.proofs.transactions.Often.{or_false}
 use Rattle.sip_conversation.proofs.Among.{all_go, among_first, among_kept, among_later, among_mapped, first_or_later, kept_among, mapped_among, none_among}
 
 -- ---- turns

@@ -36,9 +36,10 @@ use Rattle.sip_transactions.specs.Steps.Life.{life_after, life_in, state_of, ste
 use Rattle.sip_transactions.specs.Steps.Output.{handed_out, kind_of, made_of, outputs_of, up_out}
 use Rattle.sip_transactions.proofs.RowFacts.{by_test}
 use Rattle.sip_agent_laws.specs.Transactions.Outcomes.{is_final}
-use Rattle.sip_conversation.specs.Copies.{TicksInTime, copies, is_copy}
+use Rattle.sip_agent_laws.specs.Transactions.Copies.{TicksInTime, copies, is_copy}
 use Rattle.sip_conversation.proofs.Among.{first_or_later, none_among}
-use Rattle.sip_conversation.proofs.OftenSent.{by_role, by_row, one_copy, or_false, to_role}
+use Rattle.sip_agent_laws.proofs.transactions.Often.{one_copy, or_false}
+use Rattle.sip_agent_laws.proofs.transactions.OftenSent.{by_role, by_row, to_role}
 use Rattle.sip_conversation.proofs.FirstStart.{AreOthers, IsOther, stays}
 
 -- what doesn't change while it waits

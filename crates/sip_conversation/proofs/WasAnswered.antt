@@ -48,31 +48,28 @@ use Rattle.sip_conversation.proofs.Unchanged.{messages_unchanged}
 use Rattle.sip_conversation.proofs.Unstamped.{same_response}
 use Rattle.sip_conversation.proofs.Ups.{OutCame, UpCame, inputs_came}
 
--- ---- a request with which a transaction is started
+-- ---- what transactions are given by calls
 
 module _ (config : Config) (rounds : List Round) where
   abbrev SaidFits : Key → Input → Type 0
   SaidFits key (input.Receive id message reply_to) = Unit {0}
   SaidFits key (input.Start id of message to) =
       CallSays config rounds (call_out.Command id (order.Start key of message to))
-  SaidFits key (input.Answer id message) = Unit {0}
+  SaidFits key (input.Answer id message) =
+      CallSays config rounds (call_out.Command id (order.Answer key message))
   SaidFits key (input.Failed id) = Unit {0}
   SaidFits key input.Abandon = Unit {0}
 
   out_fits : (out : CallOut) → CallSays config rounds out → OutFits config SaidFits out
   out_fits (call_out.Notice notice) says = tt
   out_fits (call_out.Command id (order.Start key of message to)) says = says
-  out_fits (call_out.Command id (order.Answer key message)) says = tt
+  out_fits (call_out.Command id (order.Answer key message)) says = says
   out_fits (call_out.Command id (order.Abandon key)) says = tt
   out_fits (call_out.Direct to bytes) says = tt
 
-  -- a call asked for it
-  pub start_said : (key : Key) (id : Id) (of : List ℕ) (message : Message) (to : Addr)
-      → IsGiven config rounds key (input.Start id of message to)
-      → CallSays config rounds (call_out.Command id (order.Start key of message to))
-  start_said key id of message to given =
-      each_of (TimedFits config SaidFits key) (inputs_of config rounds key)
-      (given_at given.0 (input.Start id of message to))
+  input_said : (key : Key) (i : Input) → IsGiven config rounds key i → SaidFits key i
+  input_said key i given =
+      each_of (TimedFits config SaidFits key) (inputs_of config rounds key) (given_at given.0 i)
       (inputs_fit config SaidFits key rounds
       (all_of (RoundFits config SaidFits) rounds
       (λ round among. all_of
@@ -80,6 +77,17 @@ module _ (config : Config) (rounds : List Round) where
       (λ e has id. any_arrival config SaidFits (λ id message reply_to. tt) (λ key id. tt) id e)))
       (all_of (OutFits config SaidFits) (calls_give config config.first no_past rounds)
       (λ out among. out_fits out (call_says config rounds out among)))) given.1
+
+  -- a call asked for it
+  pub start_said : (key : Key) (id : Id) (of : List ℕ) (message : Message) (to : Addr)
+      → IsGiven config rounds key (input.Start id of message to)
+      → CallSays config rounds (call_out.Command id (order.Start key of message to))
+  start_said key id of message to given = input_said key (input.Start id of message to) given
+
+  pub answer_said : (key : Key) (id : Id) (message : Message)
+      → IsGiven config rounds key (input.Answer id message)
+      → CallSays config rounds (call_out.Command id (order.Answer key message))
+  answer_said key id message given = input_said key (input.Answer id message) given
 
 -- ---- a response
 

@@ -24,8 +24,9 @@ use Rattle.sip_round.specs.declared.config.Config.{Config}
 use Rattle.sip_round.specs.declared.output.Output.TheVariants.{Notice}
 use Rattle.sip_round.specs.declared.round.Round.{Round}
 use Rattle.sip_round.specs.Laws.{inputs_of}
+use Rattle.sip_conversation.specs.Answers.{RespondsTo}
 use Rattle.sip_conversation.specs.Conversation.{Side, Turn, given_by, peer, rounds_of}
-use Rattle.sip_conversation.specs.Copies.{is_invite}
+use Rattle.sip_agent_laws.specs.Transactions.Copies.{is_invite}
 use Rattle.sip_conversation.specs.Delivery.{Delivers, IsUnderWay, RunInTime, RunsAfter, ShareAClock, longest_datagram}
 use Rattle.sip_conversation.specs.Messages.{come_from}
 use Rattle.sip_conversation.specs.Replies.{AreCounted}
@@ -80,7 +81,7 @@ pub record IsToldBy (configs : Side → Config) (turns : List Turn) (side : Side
   pub told : Contains (given_by configs front side)
       (Notice (Response call_id id status (tag_of response.from) (tag_of response.to) response.body))
 
--- ---- the law
+-- ---- the laws
 
 -- How long it takes at most, in ms, until the response is told, if one of `more + 1` copies of a
 -- datagram comes. The response goes out when it is given, and then as often again as repeats of the
@@ -89,24 +90,43 @@ pub record IsToldBy (configs : Side → Config) (turns : List Turn) (side : Side
 abbrev pub answer_time : ℕ → ℕ → ℕ → ℕ
 answer_time lag more delay = more * (suc more * (T2 + lag) + delay) + delay
 
--- A side has sent a request to the other one. This is no INVITE, and none that has a command of its
--- own: no CANCEL and no PRACK. The other side answers it in a turn, so early that there is time for
--- the repeats before timer F fires. Then the application that asked for the request is told of that
--- response, in time, unless it gives the request up, or a send of it is reported to have failed.
-abbrev pub AnswersArrive : (Side → Config) → List Turn → Type 0
-AnswersArrive configs turns = (lag more delay : ℕ) → ShareAClock turns
+-- What is said of a request that a side has sent to the other one, with what it is for a response to
+-- it to arrive, if that was given by a moment. The request is no INVITE, and none that has a command
+-- of its own: no CANCEL and no PRACK. It isn't given up, and no send of it is reported to have
+-- failed. The response arrives if it is given so early that there is time for the repeats before
+-- timer F fires: the application that asked for the request is told of it, in time.
+abbrev pub OfEachRequest : (Side → Config) → List Turn
+    → (Side → Message → (ℕ → Message → Type 0) → Type 0) → Type 0
+OfEachRequest configs turns Is = (lag more delay : ℕ) → ShareAClock turns
     → RunInTime configs lag turns → Delivers configs (suc more) delay turns
     → (side : Side) (branch method : List ℕ) (now : ℕ) (request : Message)
     → is_invite method ≡ false → has_command method ≡ false
     → (way : IsUnderWay (configs side) (configs (peer side)).local side turns
     (key.Client branch method) now request)
     → AreCounted (configs side) (rounds_of side turns)
-    → (earlier later : List Turn) (round : Round)
+    → Is side request (λ moment response.
+    length (written response) ≤ longest_datagram
+    → let last = moment + answer_time lag more delay in
+    last < now + 64*T1 → RunsAfter side last turns
+    → IsToldBy configs turns side way.call_id way.id response last)
+
+-- The first final response that the transaction of the request is given, in a turn, arrives.
+abbrev pub AnswersArrive : (Side → Config) → List Turn → Type 0
+AnswersArrive configs turns = OfEachRequest configs turns (λ side request Arrives.
+    (earlier later : List Turn) (round : Round)
     → turns ≡ earlier ++ record { side = peer side; round = round } ∷ later
     → (id : Id) (response : Message)
     → IsFinallyAnswered (configs (peer side)) (rounds_of (peer side) earlier) round
     (key_of_message (come_from (configs side).local request)) id response
-    → length (written response) ≤ longest_datagram
-    → let last = round.moment + answer_time lag more delay in
-    last < now + 64*T1 → RunsAfter side last turns
-    → IsToldBy configs turns side way.call_id way.id response last
+    → Arrives round.moment response)
+
+-- So does the final response that the application of the other side gives to the request as it came
+-- up, in turns up to a moment: its command wasn't refused.
+abbrev pub ApplicationsAnswersArrive : (Side → Config) → List Turn → Type 0
+ApplicationsAnswersArrive configs turns = OfEachRequest configs turns (λ side request Arrives.
+    (front rest : List Turn) → turns ≡ front ++ rest
+    → (moment : ℕ) → AllByRecursion (λ turn. (turn.round).moment ≤ moment) front
+    → (status : ℕ) (response : Message) → 200 ≤ status
+    → RespondsTo (configs (peer side)) (rounds_of (peer side) front)
+    (come_from (configs side).local request) status response
+    → Arrives moment response)

@@ -12,26 +12,31 @@ use Rattle.sip_message.specs.declared.start_line.StartLine.TheVariants.{Response
 use Rattle.sip_message.specs.Party.{tag_of}
 use Rattle.sip_message.specs.Written.{written}
 use Rattle.sip_timers.specs.declared.estimate.TheConstants.{LIFETIME as 64*T1}
-use Rattle.keyed_machine.specs.Machine.{given_at}
+use Rattle.keyed_machine.specs.Machine.{Timed, given_at}
 use Rattle.sip_transactions.specs.declared.input.Command.TheVariants as order
 use Rattle.sip_transactions.specs.declared.input.Input.{Input}
 use Rattle.sip_transactions.specs.declared.input.Input.TheVariants.{Receive, Start, Answer, Failed, Abandon}
 use Rattle.sip_transactions.specs.declared.output.Up.{Up}
 use Rattle.sip_transactions.specs.Machine.{transaction_machine}
 use Rattle.sip_user.specs.declared.item.CallOut.TheVariants.{Command}
+use Rattle.sip_user.specs.declared.item.Item.TheVariants as item
 use Rattle.sip_user.specs.declared.notice.Notice.TheVariants as notice
-use Rattle.sip_held_dialogs.specs.Requests.{is_bye, is_prack}
+use Rattle.sip_held_dialogs.specs.Dialogs.{dialog_at}
+use Rattle.sip_held_dialogs.specs.Requests.{dialog_id_of_tags, has_to_tag, is_bye, is_prack}
+use Rattle.sip_calls.specs.Call.{CallItem}
+use Rattle.sip_calls.specs.Histories.{call_from}
+use Rattle.sip_calls.specs.Provisionals.{side_held}
 use Rattle.sip_round.specs.declared.config.Config.{Config}
 use Rattle.sip_round.specs.declared.output.Output.{Output}
 use Rattle.sip_round.specs.declared.output.Output.TheVariants as output
 use Rattle.sip_round.specs.declared.round.Event.TheVariants.{Datagram}
 use Rattle.sip_round.specs.declared.round.Round.{Round}
-use Rattle.sip_round.specs.Answers.{answers}
+use Rattle.sip_round.specs.Answers.{answers, calls_of}
 use Rattle.sip_round.specs.Given.{all_given}
-use Rattle.sip_round.specs.Laws.{inputs_of}
+use Rattle.sip_round.specs.Laws.{call_inputs_of, inputs_of}
 use Rattle.sip_conversation.specs.Answers.{IsHandedUp}
 use Rattle.sip_conversation.specs.Conversation.{Side, Turn, peer, rounds_of}
-use Rattle.sip_conversation.specs.Copies.{TicksInTime, is_address, latest_repeat, pace_of}
+use Rattle.sip_agent_laws.specs.Transactions.Copies.{TicksInTime, is_address, latest_repeat, pace_of}
 use Rattle.sip_conversation.specs.Messages.{CallSays, come_from}
 use Rattle.sip_conversation.specs.Replies.{AreCounted}
 
@@ -143,7 +148,22 @@ module _ (config : Config) (rounds : List Round) (request : Message) (id : Id) w
         × Contains (all_given (answers config rounds))
         (output.Notice (notice.Ended request.call_id local_tag remote_tag))
 
-  -- or the agent gives the final response itself, without a body, in the transaction with this key
+  -- when the request comes up under this id, its call doesn't hold the dialog of its tags
+  pub record HoldsNoDialog : Type 0 where
+    pub before : List (Timed CallItem)
+    pub now : ℕ
+    pub event : Id
+    pub up : Up
+    pub after : List (Timed CallItem)
+    pub inputs_are : call_inputs_of config rounds request.call_id
+        ≡ before ++ given_at now (event, item.Up up) ∷ after
+    pub names : up.id ≡ id
+    pub none : dialog_at (dialog_id_of_tags (tag_of request.to) (tag_of request.from))
+        (side_held (call_from (calls_of config) None before)).dialogs ≡ None
+
+  -- Or the agent gives the final response itself, without a body, in the transaction with this key.
+  -- It gives 481 to a request in a dialog, such as a BYE, but no PRACK, only if it doesn't hold that
+  -- dialog (sections 12.2.2 and 15.1.2).
   pub record IsAnsweredThere (key : Key) : Type 0 where
     pub status : ℕ
     pub reason : List ℕ
@@ -152,6 +172,7 @@ module _ (config : Config) (rounds : List Round) (request : Message) (id : Id) w
     pub starts : response.start ≡ Response status reason
     pub empty : response.body ≡ []
     pub own : is_own_status request status ≡ true
+    pub gone : status ≡ 481 → has_to_tag request ≡ true → is_prack request ≡ false → HoldsNoDialog
 
 -- In turns up to this moment the request came up to the call of its Call-ID at the other side, as
 -- it was sent, except for the stamp; and the user there was told, or the agent answered it by

@@ -23,7 +23,7 @@ use Rattle.sip_round.specs.declared.round.Round.{Round}
 use Rattle.sip_round.specs.Answers.{answers}
 use Rattle.sip_round.specs.Laws.{call_inputs_of, inputs_of}
 use Rattle.sip_conversation.specs.Conversation.{Side, Turn, peer, rounds_of}
-use Rattle.sip_conversation.specs.Copies.{latest_repeat, pace_of}
+use Rattle.sip_agent_laws.specs.Transactions.Copies.{latest_repeat, pace_of}
 use Rattle.sip_conversation.specs.Delivery.{ArrivesBy, Delivers, RunInTime, RunsAfter, ShareAClock, is_lost, longest_datagram}
 use Rattle.sip_conversation.specs.Replies.{AreCounted}
 use Rattle.sip_conversation.specs.Requests.{request_asked_by}

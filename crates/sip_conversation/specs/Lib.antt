@@ -12,7 +12,6 @@ pub mod Requests
 pub mod AckedResponses
 pub mod Acks
 pub mod ToldPracks
-pub mod Copies
 pub mod Delivery
 pub mod GoOut
 pub mod AnswersArrive

@@ -1,27 +1,14 @@
 //! Laws of what arrives, over a network that delivers.
 
 ghost use Rattle.std.specs.Prelude.{List};
-ghost use Rattle.sip_transactions.specs.Machine.{transaction_machine};
-ghost use Rattle.sip_conversation.specs.AnswersArrive.{AnswersArrive};
+ghost use Rattle.sip_conversation.specs.AnswersArrive.{AnswersArrive, ApplicationsAnswersArrive};
 ghost use Rattle.sip_conversation.specs.GoOut.{AskedArrive, RequestsGoOut};
 ghost use Rattle.sip_conversation.specs.Commands.{CommandsKeepTypes};
 ghost use Rattle.sip_conversation.specs.Conversation.{Carried, Turn, of_sides};
-ghost use Rattle.sip_conversation.specs.Copies.{EachRequestIsRepeated};
 ghost use Rattle.sip_conversation.specs.Delivery.{RequestsArrive};
 
 use crate::laws::sides_are_fair;
 use sip_round::Config;
-
-/// A client's request goes out when it is started, and again at each moment of timer A (an INVITE)
-/// or timer E: after T1, then after that interval doubled each time, which for timer E is at most
-/// T2 (RFC 3261, sections 17.1.1.2 and 17.1.2.2). Let each tick come at most `lag` ms after what it
-/// finds due. If one comes after the latest moment of so many repeats, all of them have gone out
-/// before it, with the same bytes, to the same address. Only a response ends this, or timer B or F,
-/// the user, who gives the request up, or a failed send. So with no lag a request goes out 11 times
-/// in 64*T1, an INVITE 7 times; by `few_sends` of sip_transactions it never goes out more often.
-pub fn a_request_is_repeated()
-    ensures { EachRequestIsRepeated transaction_machine }
-{}
 
 /// A conversation in which datagrams may be lost, duplicated, late or out of order, but not all of
 /// them. The moments of its turns are of one clock. Each side runs its next round at most `lag` ms
@@ -29,16 +16,17 @@ pub fn a_request_is_repeated()
 /// the other one, one after another, one at least comes within `delay` ms. Then each request that a
 /// side sends to the other one arrives, if it isn't given up, none of its sends is reported to have
 /// failed, and its text has at most 65,507 bytes. Its tries are the request and its repeats (see
-/// `a_request_is_repeated`). It arrives by the latest moment of its last try and that delay, if
-/// these are before timer B or F fires. So this is said of 11 tries of a request other than INVITE
-/// if 10 lags and the delay are below 500 ms, of 10 if 9 lags and the delay are below 4,500 ms, of
-/// 9 if 8 lags and the delay are below 8,500 ms; and of 6 tries of an INVITE if 5 lags and the
-/// delay are below 16,500 ms.
+/// `a_request_is_repeated` of sip_agent_laws). It arrives by the latest moment of its last try and
+/// that delay, if these are before timer B or F fires. So this is said of 11 tries of a request
+/// other than INVITE if 10 lags and the delay are below 500 ms, of 10 if 9 lags and the delay are
+/// below 4,500 ms, of 9 if 8 lags and the delay are below 8,500 ms; and of 6 tries of an INVITE if
+/// 5 lags and the delay are below 16,500 ms.
 ///
 /// The request comes up to the call of its Call-ID, as it was sent, except for the stamp. The other
 /// user is told of it, and of the end of a dialog of that call if it is a BYE. Or the other agent
-/// gives the final response by itself: 420, 481, 482 or 500, or 200 to a PRACK. As long as its
-/// transaction is held there, the request comes up once (`one_request_up` of sip_transactions).
+/// gives the final response by itself: 420, 481, 482 or 500, or 200 to a PRACK. To a request in a
+/// dialog, such as a BYE, but no PRACK, it gives 481 only if it doesn't hold that dialog. As long as
+/// its transaction is held there, the request comes up once (`one_request_up` of sip_transactions).
 ///
 /// This isn't said of a CANCEL. The rounds of the side that sends have numbers below 2^64 and fewer
 /// than 2^64 events each. If the last try or the delay ends after timer B or F, nothing is said.
@@ -66,7 +54,8 @@ pub fn requests_go_out(config: Config)
 /// the other side, isn't given up, none of its sends is reported to have failed, and its text has
 /// at most 65,507 bytes, it arrives there, by the latest moment of its last try and the delay: the
 /// other user is told of it, or the other agent responds by itself. After a BYE both users are told
-/// of the end of a dialog of the call, unless the other agent responds by itself.
+/// of the end of a dialog of the call; or the other agent doesn't hold that dialog, and answers 481;
+/// or it answers 420, 482 or 500.
 pub fn what_is_asked_for_arrives(one: Config, other: Config)
     ensures { (turns : List Turn) → Carried (of_sides one other) turns
         → CommandsKeepTypes turns
@@ -80,7 +69,9 @@ pub fn what_is_asked_for_arrives(one: Config, other: Config)
 /// response, the first one. It is sent then, and again at each repeat of the request that comes.
 /// Then the application that asked for the request is told of a response, under the Call-ID of the
 /// call and the id of its command: with the status, the tags and the body of that one. That holds
-/// unless it gives the request up, or a send of it is reported to have failed.
+/// unless it gives the request up, or a send of it is reported to have failed. It also holds of the
+/// final response that the other application gives to the request: its command has the id under
+/// which the request came up, and wasn't refused; the response has its status and its body.
 ///
 /// The time for that, from the response on, depends on how many copies of a datagram it takes until
 /// one comes. If each comes, that is the delay. If one of two does, it is 8 s and twice the lag and
@@ -90,9 +81,12 @@ pub fn what_is_asked_for_arrives(one: Config, other: Config)
 /// was sent. The response has at most 65,507 bytes. If the other side responds later, or the one
 /// that waits runs no round after that time, nothing is said.
 pub fn answers_arrive(one: Config, other: Config)
-    ensures { (turns : List Turn) → Carried (of_sides one other) turns
+    ensures given { (turns : List Turn) → Carried (of_sides one other) turns
         → CommandsKeepTypes turns
         → AnswersArrive (of_sides one other) turns }
+    ensures by_the_application { (turns : List Turn) → Carried (of_sides one other) turns
+        → CommandsKeepTypes turns
+        → ApplicationsAnswersArrive (of_sides one other) turns }
 {
     sides_are_fair(&one, &other);
 }

@@ -6,9 +6,7 @@
 mod delivery;
 mod laws;
 
-pub use delivery::{
-    a_request_is_repeated, requests_arrive, requests_go_out, what_is_asked_for_arrives,
-};
+pub use delivery::{answers_arrive, requests_arrive, requests_go_out, what_is_asked_for_arrives};
 pub use laws::{
     acks_follow_responses, acks_told_were_said, calls_hear_unchanged, calls_keep_rules,
     cancels_told_were_asked_for, datagrams_are_texts_said, messages_come_unchanged,
