@@ -69,7 +69,7 @@ use Rattle.sip_conversation.proofs.Among.{all_go, all_of, among_first, among_lat
 use Rattle.sip_conversation.proofs.Answered.{held_came}
 use Rattle.sip_conversation.proofs.AnsweringServer.{ArePlain, IsPlain, comes, gives_final}
 use Rattle.sip_conversation.proofs.AnswersArrive as arrives
-use Rattle.sip_conversation.proofs.AnswersArrive.{IsReceipt, a_receipt, any_of, came_asked, count_first, counts_one, final_given, front_all, no_own_command, no_start, server_side}
+use Rattle.sip_conversation.proofs.AnswersArrive.{a_receipt, any_of, came_asked, count_first, counts_one, final_given, front_all, no_own_command, no_start, server_side}
 use Rattle.sip_conversation.proofs.Begun.{IsBegun, begun}
 use Rattle.sip_conversation.proofs.CameUps.{HasFirst, request_first}
 use Rattle.sip_conversation.proofs.FinalsOnce.{Brings, GivesFinal, IsFinal, SaidAt, came_or_held, held_so, keeps_none, not_early, from_among, one_place, said_at, says_at, to_among}

@@ -1,12 +1,10 @@
 -- What a session says fits a session: its commands have a status, and Contacts that may stand before
 -- them.
-use Rattle.std.proofs.Common.{◌≡◌, ◌≤◌, ℕ, Bool, true, false, cond, List, [], ◌∷◌, ◌++◌, map, Option, Some, None, refl, sym, ap, subst, ◌∙◌, append_assoc}
+use Rattle.std.proofs.Common.{◌≡◌, ◌≤◌, ℕ, Bool, true, false, cond, List, [], ◌∷◌, ◌++◌, map, Some, None, refl, sym, ap, subst, ◌∙◌, append_assoc}
 use Rattle.std.specs.List.{flat_map, AllByRecursion, AllZip}
 use Rattle.sip_text.proofs.Options.{same_some}
 use Rattle.sip_message.specs.Content.{Content, content_of_body}
 use Rattle.sip_message.specs.declared.name_addr.NameAddr.{NameAddr}
-use Rattle.sip_user.specs.declared.command.DialogBody.{DialogBody}
-use Rattle.sip_user.specs.declared.command.DialogRequest.{DialogRequest}
 use Rattle.sip_user.specs.declared.command.Respond.{Respond}
 use Rattle.sip_user.specs.declared.command.UserCommand.{UserCommand}
 use Rattle.sip_user.specs.declared.command.UserCommand.TheVariants as command
@@ -22,11 +20,11 @@ use Rattle.sip_files.specs.declared.given_header.GivenHeader.{GivenHeader}
 use Rattle.sip_files.specs.declared.given_headers.GivenHeaders.{GivenHeaders}
 use Rattle.sip_files.specs.EventFile.{HeadedLine, SaysHeaded, SpellsSession, head_lines, headed_lines, round_lines}
 use Rattle.sip_files.specs.EventLines.{SpellsLines}
-use Rattle.sip_files.specs.Events.{IsBodyAlone, IsCommandLine, SpellsLine}
+use Rattle.sip_files.specs.Events.{IsCommandLine, SpellsLine}
 use Rattle.sip_files.specs.Given.{command_with, gathered, unrouted, with_given, with_headers}
 use Rattle.sip_files.specs.Rounds.{SpellsRound}
 use Rattle.sip_files.specs.Unregister.{contacts_fit}
-use Rattle.sip_files.specs.Written.{FitsSession, HasStatus, IsEventOf, IsSessionCommand, SpellsEventLine, by_header, headers_of}
+use Rattle.sip_files.specs.Written.{FitsSession, HasStatus, SpellsEventLine, by_header, headers_of}
 use Rattle.sip_files.proofs.CommandLines.{mapped}
 
 -- ---- what a rule gives where another is known

@@ -10,7 +10,7 @@ ghost use Rattle.sip_round.specs.declared.round.Round.{Round};
 ghost use Rattle.sip_files.specs.EventFile.{IsOneLine, SpellsEvents, SpellsIn, SpellsSession, file_text};
 ghost use Rattle.sip_files.specs.Events.{AreAlike, SpellsLine};
 ghost use Rattle.sip_files.specs.Rounds.{SpellsRound, SpellsRounds};
-ghost use Rattle.sip_files.specs.Written.{FitsSession, IsConfig, IsEventOf, IsRound, IsSessionCommand, IsSessionRound, events_text, session_round_text, session_text};
+ghost use Rattle.sip_files.specs.Written.{FitsSession, IsConfig, IsRound, IsSessionRound, events_text, session_round_text, session_text};
 ghost use Rattle.std.specs.List.{AllByRecursion, starts_with};
 
 use crate::types::event_fits;
