@@ -38,8 +38,8 @@ impl RoundReader {
 
     /// The lines up to the next one that begins a round; none at the end. Of lines that are longer
     /// than a file may be, it may give only a front that is, too. It reads no further than the read
-    /// that tells where they end, so that it doesn't wait for more, and holds at most 4,102 bytes
-    /// that come after them.
+    /// that tells where they end, so that it doesn't wait for more, and adds at most 4,102 bytes to
+    /// those that it has read ahead.
     ///
     /// # Errors
     ///

@@ -35,7 +35,8 @@ loop-place-preserved g c =
 pub returns-clause-states : goal.returns-clause-states
 returns-clause-states g c =
     let left = c.loop-place.place-iterator in
-    let done = no_item_left c.loop-place.invariant (ap (timed_items c.args.now)
+    let done = no_item_left {all = timed_items c.args.now c.args.items.items}
+    c.loop-place.invariant (ap (timed_items c.args.now)
     (nil_from_length (into_iter_items left)
     (sym left.rest.ok.0 ∙ c.in-None.ensures.steps.0))) in
     done.stepped_so_far
@@ -43,7 +44,8 @@ returns-clause-states g c =
 pub returns-clause-armed : goal.returns-clause-armed
 returns-clause-armed g c =
     let left = c.loop-place.place-iterator in
-    let done = no_item_left c.loop-place.invariant (ap (timed_items c.args.now)
+    let done = no_item_left {all = timed_items c.args.now c.args.items.items}
+    c.loop-place.invariant (ap (timed_items c.args.now)
     (nil_from_length (into_iter_items left)
     (sym left.rest.ok.0 ∙ c.in-None.ensures.steps.0))) in
     done.armed
@@ -51,7 +53,8 @@ returns-clause-armed g c =
 pub returns-clause-told : goal.returns-clause-told
 returns-clause-told g c =
     let left = c.loop-place.place-iterator in
-    let done = no_item_left c.loop-place.invariant (ap (timed_items c.args.now)
+    let done = no_item_left {all = timed_items c.args.now c.args.items.items}
+    c.loop-place.invariant (ap (timed_items c.args.now)
     (nil_from_length (into_iter_items left)
     (sym left.rest.ok.0 ∙ c.in-None.ensures.steps.0))) in
     sym (append-nil (groups c.loop-place.told.items)) ∙ done.said
