@@ -8,7 +8,8 @@
 //     journal.append(begun.agent);                   // before one of them is sent or told
 //
 // A journal is a session file, as `ua --journal` writes it (docs/FORMATS.md). It has the agent's
-// seed: keep it secret. It only grows: before you open it, `ua compact` makes it shorter.
+// seed: keep it secret. It only grows: once it is cut, before you open it, `ua compact` makes it
+// shorter.
 #ifndef SIP_UA_JOURNAL_HPP
 #define SIP_UA_JOURNAL_HPP
 
