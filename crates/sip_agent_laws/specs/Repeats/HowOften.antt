@@ -34,9 +34,9 @@ abbrev pub times_given : RequestStory → SuccessStory → List CallOut → ℕ
 times_given story success outs =
     count_by (is_answer story.arrival.id story.arrival.key (written success.response)) outs
 
--- Whatever came to a call: a 2xx to an INVITE of the peer goes out when the user gives it, and again
--- until its ACK comes or it is given up. By a tick that comes in time, after the latest moment of so
--- many repeats, all these have gone out.
+-- Whatever came to a call: a 2xx to an INVITE of the peer goes out when the user gives it, and
+-- again until its ACK comes or 64*T1 are over. By a tick that comes in time, after the latest
+-- moment of so many repeats, all these have gone out.
 abbrev pub EachSuccessIsRepeated : Type 0
 EachSuccessIsRepeated = (calls : Calls) (call_id : List ℕ) (inputs : List (Timed CallItem))
     (lag repeats end : ℕ)
