@@ -58,9 +58,9 @@ pub fn direct_sends_are_of_calls(config: &Config)
 }
 
 /// Whatever is held under a Call-ID, by one input the call sends no ACK directly, or one: the user
-/// gives it, in a dialog that is held before and after; or the first 2xx of a dialog comes to a held
-/// INVITE, and the dialog is held after it; or such a 2xx comes again, and the ACK that went out for
-/// it goes out again, even if the dialog has ended since (RFC 3261, section 13.2.2.4).
+/// gives it, in a dialog that is held before and after; or the first 2xx of a dialog comes to a
+/// held INVITE, and the dialog is held after it; or such a 2xx comes again, and the ACK that went
+/// out for it goes out again, even if the dialog has ended since (RFC 3261, section 13.2.2.4).
 pub fn one_ack_an_input()
     ensures { OneAckAnInput }
 {}

@@ -68,14 +68,14 @@ pub fn closed_in_time()
     ensures { ClosedInTime transaction_machine }
 {}
 
-/// A server of an INVITE that was rejected is held until its ACK, or until a tick 64*T1 later (timer
-/// H). Then it is gone, or got its ACK (RFC 3261, section 17.2.1).
+/// A server of an INVITE that was rejected is held until its ACK, or until a tick 64*T1 later
+/// (timer H). Then it is gone, or got its ACK (RFC 3261, section 17.2.1).
 pub fn rejected_in_time()
     ensures { RejectedInTime transaction_machine }
 {}
 
-/// No client tells of a timeout before a tick 64*T1 after its start (RFC 3261, sections 17.1.1.2 and
-/// 17.1.2.2).
+/// No client tells of a timeout before a tick 64*T1 after its start (RFC 3261, sections 17.1.1.2
+/// and 17.1.2.2).
 pub fn no_early_timeout()
     ensures { NoEarlyTimeout transaction_machine }
 {}

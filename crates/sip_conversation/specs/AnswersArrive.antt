@@ -90,11 +90,11 @@ pub record IsToldBy (configs : Side → Config) (turns : List Turn) (side : Side
 abbrev pub answer_time : ℕ → ℕ → ℕ → ℕ
 answer_time lag more delay = more * (suc more * (T2 + lag) + delay) + delay
 
--- What is said of a request that a side has sent to the other one, with what it is for a response to
--- it to arrive, if that was given by a moment. The request is no INVITE, and none that has a command
--- of its own: no CANCEL and no PRACK. It isn't given up, and no send of it is reported to have
--- failed. The response arrives if it is given so early that there is time for the repeats before
--- timer F fires: the application that asked for the request is told of it, in time.
+-- What is said of a request that a side has sent to the other one, with what it is for a response
+-- to it to arrive, if that was given by a moment. The request is no INVITE, and none that has a
+-- command of its own: no CANCEL and no PRACK. It isn't given up, and no send of it is reported to
+-- have failed. The response arrives if it is given so early that there is time for the repeats
+-- before timer F fires: the application that asked for the request is told of it, in time.
 abbrev pub OfEachRequest : (Side → Config) → List Turn
     → (Side → Message → (ℕ → Message → Type 0) → Type 0) → Type 0
 OfEachRequest configs turns Is = (lag more delay : ℕ) → ShareAClock turns

@@ -162,8 +162,8 @@ module _ (config : Config) (rounds : List Round) (request : Message) (id : Id) w
         (side_held (call_from (calls_of config) None before)).dialogs ≡ None
 
   -- Or the agent gives the final response itself, without a body, in the transaction with this key.
-  -- It gives 481 to a request in a dialog, such as a BYE, but no PRACK, only if it doesn't hold that
-  -- dialog (sections 12.2.2 and 15.1.2).
+  -- It gives 481 to a request in a dialog, such as a BYE, but no PRACK, only if it doesn't hold
+  -- that dialog (sections 12.2.2 and 15.1.2).
   pub record IsAnsweredThere (key : Key) : Type 0 where
     pub status : ℕ
     pub reason : List ℕ

@@ -25,8 +25,9 @@ use sip_round::Config;
 /// The request comes up to the call of its Call-ID, as it was sent, except for the stamp. The other
 /// user is told of it, and of the end of a dialog of that call if it is a BYE. Or the other agent
 /// gives the final response by itself: 420, 481, 482 or 500, or 200 to a PRACK. To a request in a
-/// dialog, such as a BYE, but no PRACK, it gives 481 only if it doesn't hold that dialog. As long as
-/// its transaction is held there, the request comes up once (`one_request_up` of sip_transactions).
+/// dialog, such as a BYE, but no PRACK, it gives 481 only if it doesn't hold that dialog. As long
+/// as its transaction is held there, the request comes up once (`one_request_up` of
+/// sip_transactions).
 ///
 /// This isn't said of a CANCEL. The rounds of the side that sends have numbers below 2^64 and fewer
 /// than 2^64 events each. If the last try or the delay ends after timer B or F, nothing is said.
@@ -54,8 +55,8 @@ pub fn requests_go_out(config: Config)
 /// the other side, isn't given up, none of its sends is reported to have failed, and its text has
 /// at most 65,507 bytes, it arrives there, by the latest moment of its last try and the delay: the
 /// other user is told of it, or the other agent responds by itself. After a BYE both users are told
-/// of the end of a dialog of the call; or the other agent doesn't hold that dialog, and answers 481;
-/// or it answers 420, 482 or 500.
+/// of the end of a dialog of the call; or the other agent doesn't hold that dialog, and answers
+/// 481; or it answers 420, 482 or 500.
 pub fn what_is_asked_for_arrives(one: Config, other: Config)
     ensures { (turns : List Turn) → Carried (of_sides one other) turns
         → CommandsKeepTypes turns

@@ -1,5 +1,5 @@
--- What a session says fits a session: its commands have a status, and Contacts that may stand before
--- them.
+-- What a session says fits a session: its commands have a status, and Contacts that may stand
+-- before them.
 use Rattle.std.proofs.Common.{◌≡◌, ◌≤◌, ℕ, Bool, true, false, cond, List, [], ◌∷◌, ◌++◌, map, Some, None, refl, sym, ap, subst, ◌∙◌, append_assoc}
 use Rattle.std.specs.List.{flat_map, AllByRecursion, AllZip}
 use Rattle.sip_text.proofs.Options.{same_some}

@@ -57,8 +57,8 @@ use sip_text::{Series, Text};
 use std::alloc::{AllocError, Global};
 use std::mem;
 
-/// One user agent, the headers of its next command, the events of its next round, and its last round
-/// with the outputs.
+/// One user agent, the headers of its next command, the events of its next round, and its last
+/// round with the outputs.
 #[derive(Drop)]
 pub struct Host {
     alloc: Global,
@@ -161,8 +161,8 @@ impl Host {
         Ok(())
     }
 
-    /// Asks for a command. It is an event of the next round, and takes the headers that are kept for
-    /// it. Gives the id of the event.
+    /// Asks for a command. It is an event of the next round, and takes the headers that are kept
+    /// for it. Gives the id of the event.
     ///
     /// # Errors
     ///
@@ -367,8 +367,8 @@ impl Host {
     }
 
     /// What the request that came in at this place of the last round says of itself, and its notice
-    /// doesn't: whether it is in a dialog, and its use of reliable provisional responses. None if no
-    /// request came in there.
+    /// doesn't: whether it is in a dialog, and its use of reliable provisional responses. None if
+    /// no request came in there.
     ///
     /// # Errors
     ///

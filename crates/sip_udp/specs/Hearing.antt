@@ -49,7 +49,8 @@ abbrev pub put_on : ℕ → ℕ → List (Event × Bool) → List Event
 put_on agents number heard = map (λ one. one.0) (filter (stands_on agents number) heard)
 
 -- With these datagrams so much was posted on the line with this number: after what stood there, all
--- of its agent but those that were lost. None is lost unless as many were posted as it has room for.
+-- of its agent but those that were lost. None is lost unless as many were posted as it has room
+-- for.
 pub record Posts (agents number : ℕ) (line : Poster Event) (all : List Event)
     (heard : List (Event × Bool)) : Type 0 where
   pub put : all ≡ posted line ++ put_on agents number heard

@@ -1,4 +1,5 @@
--- An ACK that no transaction waits for comes up (RFC 3261, section 13.3.1.4; RFC 6026, section 7.1).
+-- An ACK that no transaction waits for comes up (RFC 3261, section 13.3.1.4; RFC 6026, section
+-- 7.1).
 use Rattle.std.specs.Prelude.{◌≡◌, ℕ, Bool, true, false, List, [], ◌∷◌, Option, None, Some, filter_map}
 use Rattle.sip_message.specs.declared.addr.Addr.{Addr}
 use Rattle.sip_message.specs.declared.id.Id.{Id}
